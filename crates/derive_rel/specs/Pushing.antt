@@ -1,4 +1,4 @@
--- Rows that are put last.
+-- Serves the code: rows that are put last.
 use Rattle.std.specs.Prelude.{◌≡◌, ◌↔◌, ◌≤◌, ℕ, List, ◌++◌, true}
 use Rattle.net_core.specs.declared.rels.Rel.{Rel}
 use Rattle.order_closure.specs.Cells.{order, strength}

@@ -1,4 +1,4 @@
--- The links that a timeline is asked to keep.
+-- Serves the code: the links that a timeline is asked to keep.
 use Rattle.std.specs.Prelude.{ℕ, ◌<◌, ⊤, List, length, slice_index}
 use Rattle.std.specs.List.{Contains}
 use Rattle.net_core.specs.Clashes.{Others}

@@ -1,4 +1,4 @@
--- What the calendar says of the points of a net, as events in order.
+-- Serves the code: what the calendar says of the points of a net, as events in order.
 use Rattle.std.specs.Prelude.{◌≡◌, ℕ, ◌+◌, ◌<◌, ◌≤◌, ℤ, pos, List, [], ◌∷◌, length, Option, Some, None, slice_index_or}
 use Rattle.std.specs.List.{All, Contains}
 use Rattle.std.specs.List.Sorted.{IsSortedByKey}

@@ -1,4 +1,4 @@
--- The orders that the links of a net are, as lists of one kind each: without the order of their numbers, and how often each stands there.
+-- Serves the code: the orders that the links of a net are, as lists of one kind each: without the order of their numbers, and how often each stands there.
 use Rattle.std.specs.Prelude.{◌↔◌, ℕ, ◌<◌, ◌≤◌, length}
 use Rattle.std.specs.List.{All}
 use Rattle.net_core.specs.Fits.{KeepsLink}

@@ -1,4 +1,4 @@
--- Pairs of points and of intervals, and how a timeline is to order them.
+-- Serves the code: pairs of points and of intervals, and how a timeline is to order them.
 use Rattle.std.specs.Prelude.{◌≡◌, ◌↔◌, ℕ, ◌*◌, ◌+◌, ◌<◌, ◌≤◌, ⊤, List, [], ◌∷◌, length, take, drop}
 use Rattle.std.specs.List.{All, Contains}
 use Rattle.net_core.specs.Relations.{Equals, Timeline, ends_of}

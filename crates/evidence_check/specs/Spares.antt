@@ -1,4 +1,4 @@
--- The spares of a clash, in either of their forms.
+-- Serves the code: the spares of a clash, in either of their forms.
 use Rattle.std.specs.Prelude.{ℕ, List}
 use Rattle.evidence_check.specs.declared.spares.Spares.{Spares}
 use Rattle.evidence_check.specs.declared.spares.Spares.TheVariants.{Listed, Joined}

@@ -1,4 +1,4 @@
--- Timelines that stand end to end, by where each of them ends.
+-- Serves the code: timelines that stand end to end, by where each of them ends.
 use Rattle.std.specs.Prelude.{◌≡◌, ℕ, ◌-◌, ◌≤◌, List, [], ◌∷◌, length, take, drop}
 use Rattle.net_core.specs.Ranks.{AreEven}
 

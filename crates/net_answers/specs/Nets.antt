@@ -1,7 +1,6 @@
 -- Commands that ask something of the net of a document.
 use Rattle.std.specs.Prelude.{◌≡◌, ◌⊎◌, ℕ, List}
 use Rattle.answers.specs.Documents.{Contents}
-use Rattle.evidence_format.specs.Evidence.{PlainEvidence}
 use Rattle.net_build.specs.Built.{IsNetOf}
 use Rattle.net_core.specs.Entailment.{HasTimeline}
 use Rattle.net_core.specs.Nets.{PlainNet}
@@ -10,7 +9,7 @@ use Rattle.tml_refs.specs.Documents.{PlainDocument}
 use Rattle.runs.specs.Answered.{Freedom}
 use Rattle.runs.specs.declared.status.Status.{Status}
 use Rattle.runs.specs.declared.status.Status.TheVariants.{Clash}
-use Rattle.net_answers.specs.Showing.{ShowsClash, ShowsEvidence}
+use Rattle.net_answers.specs.Showing.{ShowsClash}
 
 -- the document is accepted, and this is its net
 abbrev pub HasNet : List ℕ → PlainNet → Type 0
@@ -39,12 +38,3 @@ of_its_net IsFree contents status = (status ≡ Clash) ⊎ ((net : PlainNet) × 
 -- the text of a clash is free, whatever was read
 abbrev pub ClashIsFree : Freedom
 ClashIsFree contents status = status ≡ Clash
-
--- the document is accepted, and the text is that of evidence that its net supports
-pub record HasEvidence (doc text : List ℕ) : Type 0 where
-  pub contents : PlainDocument
-  pub net : PlainNet
-  pub evidence : PlainEvidence
-  pub says : Says doc contents
-  pub built : IsNetOf contents net
-  pub shows : ShowsEvidence net evidence text

@@ -1,4 +1,4 @@
--- The orders that the calendar gives the points of dates.
+-- Serves the code: the orders that the calendar gives the points of dates.
 use Rattle.std.specs.Prelude.{◌≡◌, ◌↔◌, ℕ, ◌<◌, ℤ, ◌<ℤ◌, ⊤, List, Option, Some, MatchOption}
 use Rattle.std.specs.List.{All, Contains}
 use Rattle.net_core.specs.Fits.{FollowsNumbers}

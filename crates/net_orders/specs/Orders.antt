@@ -1,4 +1,4 @@
--- Orders of points, of links and without any, and what they say where one link is left out.
+-- Serves the code: orders of points, of links and without any, and what they say where one link is left out.
 use Rattle.std.specs.Prelude.{◌≡◌, ◌≢◌, ◌↔◌, ℕ, ◌<◌, ◌==◌, Bool, false, List, length, Option, Some, None}
 use Rattle.std.specs.List.{All}
 use Rattle.net_core.specs.Atoms.{IsInRange, Satisfies}

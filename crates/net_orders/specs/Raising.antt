@@ -1,4 +1,4 @@
--- Ranks that are raised until they fit.
+-- Serves the code: ranks that are raised until they fit.
 use Rattle.std.specs.Prelude.{◌≡◌, ℕ, ◌<◌, ◌≤◌, List, length, slice_index}
 use Rattle.net_core.specs.Limits.{max_points}
 use Rattle.net_core.specs.Ranks.{timeline_of}

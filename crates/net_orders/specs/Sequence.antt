@@ -1,4 +1,4 @@
--- Numbers of orders, by the points that the orders leave.
+-- Serves the code: numbers of orders, by the points that the orders leave.
 use Rattle.std.specs.Prelude.{◌≡◌, ℕ, ◌<◌, length, List, None, Option, IfSome, slice_index_or}
 use Rattle.std.specs.List.{All}
 use Rattle.net_core.specs.declared.atom.Atom.{Atom}

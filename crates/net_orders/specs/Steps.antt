@@ -1,4 +1,4 @@
--- What is added to a table, step by step.
+-- Serves the code: what is added to a table, step by step.
 use Rattle.std.specs.Prelude.{◌≡◌, ℕ, ◌<◌, ◌↔◌, Result, Ok, Err, length}
 use Rattle.net_core.specs.Fits.{KeepsCalendar, KeepsLink, StartsFirst}
 use Rattle.net_core.specs.Nets.{PlainNet, intervals, points}

@@ -49,19 +49,19 @@ length_of l = do
 abbrev pub no_limits : Limits
 no_limits = record { least = None; most = None }
 
-abbrev pub at_least : ℤ → Limits
-at_least n = record { least = Some n; most = None }
+abbrev pub lasts_at_least : ℤ → Limits
+lasts_at_least n = record { least = Some n; most = None }
 
-abbrev pub at_most : ℤ → Limits
-at_most n = record { least = None; most = Some n }
+abbrev pub lasts_at_most : ℤ → Limits
+lasts_at_most n = record { least = None; most = Some n }
 
 -- the limits of what has this modifier, and lasts n seconds without it
 abbrev pub limits_by : Option Modifier → ℤ → Limits
 limits_by None n = record { least = Some n; most = Some n }
-limits_by (Some ModifierOf.LessThan) n = at_most (n -ℤ pos 1)
-limits_by (Some ModifierOf.EqualOrLess) n = at_most n
-limits_by (Some ModifierOf.MoreThan) n = at_least (n +ℤ pos 1)
-limits_by (Some ModifierOf.EqualOrMore) n = at_least n
+limits_by (Some ModifierOf.LessThan) n = lasts_at_most (n -ℤ pos 1)
+limits_by (Some ModifierOf.EqualOrLess) n = lasts_at_most n
+limits_by (Some ModifierOf.MoreThan) n = lasts_at_least (n +ℤ pos 1)
+limits_by (Some ModifierOf.EqualOrMore) n = lasts_at_least n
 limits_by (Some modifier) n = no_limits
 
 -- the limits of a time: those of a duration that has a length, and none of all else

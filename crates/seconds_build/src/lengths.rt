@@ -66,8 +66,8 @@ fn length_of(length: &Length) -> Option<i64>
     }
 }
 
-fn at_least(seconds: i64) -> Limits
-    ensures { result ≡ spec.at_least seconds }
+fn lasts_at_least(seconds: i64) -> Limits
+    ensures { result ≡ spec.lasts_at_least seconds }
 {
     Limits {
         least: Some(seconds),
@@ -75,8 +75,8 @@ fn at_least(seconds: i64) -> Limits
     }
 }
 
-fn at_most(seconds: i64) -> Limits
-    ensures { result ≡ spec.at_most seconds }
+fn lasts_at_most(seconds: i64) -> Limits
+    ensures { result ≡ spec.lasts_at_most seconds }
 {
     Limits {
         least: None,
@@ -96,10 +96,10 @@ fn limits_by(modifier: Option<Modifier>, seconds: i64) -> Limits
             least: Some(seconds),
             most: Some(seconds),
         },
-        Some(Modifier::LessThan) => at_most(seconds - 1),
-        Some(Modifier::EqualOrLess) => at_most(seconds),
-        Some(Modifier::MoreThan) => at_least(seconds + 1),
-        Some(Modifier::EqualOrMore) => at_least(seconds),
+        Some(Modifier::LessThan) => lasts_at_most(seconds - 1),
+        Some(Modifier::EqualOrLess) => lasts_at_most(seconds),
+        Some(Modifier::MoreThan) => lasts_at_least(seconds + 1),
+        Some(Modifier::EqualOrMore) => lasts_at_least(seconds),
         Some(
             Modifier::Before
             | Modifier::After

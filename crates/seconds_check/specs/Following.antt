@@ -1,4 +1,4 @@
--- Following lines from a point.
+-- Serves the code: following lines from a point.
 use Rattle.std.specs.Prelude.{◌≡◌, ℕ, ◌+◌, ◌<◌, List, length, take}
 use Rattle.seconds_core.specs.declared.line.Line.{Line}
 use Rattle.seconds_core.specs.Cycles.{LeadFromTo, sum_of}

@@ -1,4 +1,4 @@
--- All constraints between the points of a net.
+-- Serves the code: all constraints between the points of a net.
 use Rattle.std.specs.Prelude.{◌≡◌, ℕ, ◌+◌, ◌<◌, ◌≤◌, pos, neg_ℤ, ◌≤ℤ◌, List, length, Some, slice_index_or}
 use Rattle.std.specs.List.{All, Contains}
 use Rattle.seconds_core.specs.Constraints.{IsWithin, at_most, constraint_of}

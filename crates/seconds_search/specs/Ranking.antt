@@ -1,4 +1,4 @@
--- How far a depth-first search along orders has come. Only that its numbers are in range is said of it.
+-- Serves the code: how far a depth-first search along orders has come. Only that its numbers are in range is said of it.
 use Rattle.std.specs.Prelude.{◌≡◌, ℕ, ◌<◌, List, length, Option, IfSome}
 use Rattle.std.specs.List.{All}
 use Rattle.seconds_search.specs.declared.edges.Edge.{Edge}

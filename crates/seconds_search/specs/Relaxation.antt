@@ -1,4 +1,4 @@
--- Bellman-Ford relaxation: a distance for each point, and the number of the edge by which it was lowered last.
+-- Serves the code: bellman-Ford relaxation: a distance for each point, and the number of the edge by which it was lowered last.
 use Rattle.std.specs.Prelude.{◌≡◌, ◌⊎◌, ℕ, ◌+◌, ◌-◌, ◌*◌, ◌<◌, ◌≤◌, ℤ, pos, negsuc, neg_ℤ, ◌+ℤ◌, ◌<ℤ◌, ◌≤ℤ◌, List, [], ◌∷◌, length, Option, Some, None, MatchOption, slice_index_or}
 use Rattle.std.specs.List.{All}
 use Rattle.net_core.specs.Limits.{max_points}

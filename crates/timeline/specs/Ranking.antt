@@ -1,4 +1,4 @@
--- Ranks of the points of a table.
+-- Serves the code: ranks of the points of a table.
 use Rattle.std.specs.Prelude.{◌≡◌, ℕ, zero, suc, ◌<◌, ◌≤◌, max, List, length, slice_index, slice_index_or}
 use Rattle.std.specs.List.{All, Contains}
 use Rattle.order_closure.specs.Counting.{count, is_strict}

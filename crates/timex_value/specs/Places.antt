@@ -1,4 +1,4 @@
--- Calendar texts by the place of each field. The private contracts of the reader use this form, in which each field is
+-- Serves the code: calendar texts by the place of each field. The private contracts of the reader use this form, in which each field is
 -- proved by itself; it says the same as `Spells`.
 use Rattle.std.specs.Prelude.{◌≡◌, ℕ, ◌+◌, List, [], ◌∷◌, length, slice_index}
 use Rattle.std.specs.Str.{byte}

@@ -1,4 +1,4 @@
--- A resolver that has taken the tags of a document.
+-- Serves the code: a resolver that has taken the tags of a document.
 use Rattle.std.specs.Prelude.{List, ℕ}
 use Rattle.tml_tree.specs.Plain.{PlainNode}
 use Rattle.tml_types.specs.Content.{PlainTyped}

@@ -61,10 +61,6 @@ abbrev mutual
 abbrev pub canonical_text : PlainNode → List ℕ
 canonical_text root = root_text (canonical root)
 
--- a source has a tree
-abbrev pub HasTree : List ℕ → Type 0
-HasTree source = (root : PlainNode) × IsTreeOf source root
-
 -- a source has a tree, and this is the canonical text of it
 abbrev pub IsCanonicalText : List ℕ → List ℕ → Type 0
 IsCanonicalText source text = (root : PlainNode) × IsTreeOf source root × (text ≡ canonical_text root)

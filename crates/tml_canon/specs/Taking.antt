@@ -1,4 +1,4 @@
--- The units of a document that are written, and its typed tags that are taken.
+-- Serves the code: the units of a document that are written, and its typed tags that are taken.
 use Rattle.std.specs.Prelude.{◌≡◌, List, ℕ, Option, Some, None, IfSome}
 use Rattle.tml_span.specs.Units.{PlainUnit}
 use Rattle.tml_tree.specs.Rules.{History}

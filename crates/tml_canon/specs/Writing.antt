@@ -1,4 +1,4 @@
--- The canonical text of a document that is written unit by unit.
+-- Serves the code: the canonical text of a document that is written unit by unit.
 use Rattle.std.specs.Prelude.{◌≡◌, ◌≤◌, ℕ, Bool, true, false, List, [], ◌∷◌, ◌++◌, length, Some}
 use Rattle.std.specs.List.{filter}
 use Rattle.tml_span.specs.Units.{Kind, PlainUnit, start_tag}

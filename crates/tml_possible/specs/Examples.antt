@@ -1,4 +1,4 @@
--- An example of each base relation, and the orders of two intervals that are false of it.
+-- Serves the code: an example of each base relation, and the orders of two intervals that are false of it.
 use Rattle.std.specs.Prelude.{ℕ, Bool, not, nat_lt, nat_le, if◌then◌else◌, List, [], ◌∷◌}
 use Rattle.std.specs.List.{filter}
 use Rattle.net_core.specs.Atoms.{atom_between}

@@ -1,4 +1,4 @@
--- Ranks of two intervals that are tried.
+-- Serves the code: ranks of two intervals that are tried.
 use Rattle.std.specs.Prelude.{ℕ, ◌/◌, ◌%◌}
 use Rattle.net_core.specs.Atoms.{point_in, points_of}
 use Rattle.net_core.specs.declared.atom.End.{End}

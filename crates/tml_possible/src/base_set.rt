@@ -6,8 +6,7 @@ ghost use Rattle.tml_possible.specs.Sets.{AreMore};
 
 use net_core::Rel;
 
-/// A set of base relations (Allen 1983): of any two intervals, exactly one of the thirteen holds. Two sets are compared by
-/// their numbers.
+/// A set of base relations (Allen 1983): of any two intervals, exactly one of the thirteen holds.
 #[derive(Clone, Copy)]
 pub struct BaseSet {
     /// Bit k is that of base relation k, in the order of the table of relations.
@@ -18,7 +17,7 @@ impl BaseSet {
     /// How many sets there are.
     pub const COUNT: usize = 8192;
 
-    /// The number of the set, below `COUNT`. Sets that have the same relations have the same number, and no others.
+    /// The number of the set, below `COUNT`: bit k of it is that of base relation k.
     pub fn number(self) -> usize
         ensures small { result < 8192 }
         ensures number { result ≡ spec.number self }

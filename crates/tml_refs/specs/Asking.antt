@@ -1,4 +1,4 @@
--- What the tags of a document ask for, but for the ends of its links.
+-- Serves the code: what the tags of a document ask for, but for the ends of its links.
 use Rattle.std.specs.Prelude.{◌≡◌, ◌<◌, ℕ, true, false, List, ◌∷◌, ◌++◌, map}
 use Rattle.std.specs.List.{All, Contains}
 use Rattle.tml_types.specs.Content.{PlainTyped, Reference}

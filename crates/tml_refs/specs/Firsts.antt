@@ -1,4 +1,4 @@
--- The first places at which rules are broken.
+-- Serves the code: the first places at which rules are broken.
 use Rattle.std.specs.Prelude.{◌≡◌, ◌<◌, ◌≤◌, ◌^◌, ℕ, List, ◌∷◌, ◌++◌, Option, Some, None}
 use Rattle.tml_types.specs.Content.{PlainTyped}
 use Rattle.tml_refs.specs.declared.resolving.RefFault.{RefFault}

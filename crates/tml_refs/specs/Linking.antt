@@ -1,4 +1,4 @@
--- Links by the identifiers of their ends, and by the numbers of these.
+-- Serves the code: links by the identifiers of their ends, and by the numbers of these.
 use Rattle.std.specs.Prelude.{◌≡◌, ◌<◌, ℕ, Bool, true, false, List}
 use Rattle.std.specs.List.{All, AllZip, Contains}
 use Rattle.tml_types.specs.Content as content

@@ -1,4 +1,4 @@
--- The names of a document: an entry for each tag that has an identifier, in the order of the identifiers.
+-- Serves the code: the names of a document: an entry for each tag that has an identifier, in the order of the identifiers.
 use Rattle.std.specs.Prelude.{◌≡◌, ◌<◌, ◌≤◌, ℕ, Bool, true, not, ◌&&◌, ◌||◌, ◌==◌, List, ◌∷◌, ◌++◌, length, Some, IsSome, ⊤}
 use Rattle.std.specs.Cmp.Lexicographic.{slice_cmp}
 use Rattle.std.specs.List.{All, Contains, count_by, list_any, slice_get}

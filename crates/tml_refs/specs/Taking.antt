@@ -1,4 +1,4 @@
--- What a resolver keeps of the tags that it has taken.
+-- Serves the code: what a resolver keeps of the tags that it has taken.
 use Rattle.std.specs.Prelude.{◌≡◌, ◌+◌, ◌<◌, ◌≤◌, ◌==◌, ◌&&◌, ℕ, Bool, true, List, [], ◌∷◌, ◌++◌, length, map, Option, Some, if◌then◌else◌}
 use Rattle.std.specs.List.{AllZip, filter}
 use Rattle.std.specs.Option.{option_to_list}

@@ -1,4 +1,4 @@
--- The ends of an order.
+-- Serves the code: the ends of an order.
 use Rattle.std.specs.Prelude.{ℕ}
 use Rattle.net_orders.specs.declared.orders.Order.{Order}
 use Rattle.tml_score.specs.declared.ends.End.{End}

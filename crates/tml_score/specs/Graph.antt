@@ -1,4 +1,4 @@
--- The orders of a net, by the points that they leave and those that they lead to.
+-- Serves the code: the orders of a net, by the points that they leave and those that they lead to.
 use Rattle.std.specs.Prelude.{◌≡◌, ◌↔◌, ◌⊎◌, ℕ, ◌<◌, Bool, true, List, length, Option, Some, None}
 use Rattle.std.specs.List.{Contains}
 use Rattle.std.specs.List.Sorted.{IsPermutation}

@@ -1,4 +1,4 @@
--- A search from two points that are at one place.
+-- Serves the code: a search from two points that are at one place.
 use Rattle.std.specs.Prelude.{◌≡◌, ◌≢◌, ◌⊎◌, ℕ, Bool, true, false, ⊤, List, [], ◌∷◌, ◌++◌, Result, Ok, Err}
 use Rattle.std.specs.List.{All, Contains}
 use Rattle.clash.specs.Walks.{AlwaysWith}

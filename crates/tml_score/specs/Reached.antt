@@ -1,4 +1,4 @@
--- The points that a search has reached.
+-- Serves the code: the points that a search has reached.
 use Rattle.std.specs.Prelude.{◌≡◌, ℕ, ◌<◌, ◌≤◌, List, length, slice_index}
 use Rattle.net_core.specs.Limits.{max_points}
 

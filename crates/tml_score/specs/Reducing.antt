@@ -1,4 +1,4 @@
--- Links that are taken one after another.
+-- Serves the code: links that are taken one after another.
 use Rattle.std.specs.Prelude.{◌≡◌, ℕ, ◌<◌, ◌≤◌, Bool, true, false, List, length}
 use Rattle.net_core.specs.Clashes.{Others}
 use Rattle.net_core.specs.Fits.{Fits, FitsWith}

@@ -1,4 +1,4 @@
--- Partners: intervals of two documents that have one name.
+-- Serves the code: partners: intervals of two documents that have one name.
 use Rattle.std.specs.Prelude.{◌≡◌, ◌↔◌, ℕ, ◌+◌, ◌*◌, ◌<◌, List, length, Option, Some, None, slice_index_or}
 use Rattle.derive_rel.specs.Entailed.{TableEntails}
 use Rattle.net_core.specs.declared.net.NetLink.{NetLink}

@@ -1,4 +1,4 @@
--- Whether an order of a link follows from the other links that are kept.
+-- Serves the code: whether an order of a link follows from the other links that are kept.
 use Rattle.std.specs.Prelude.{◌≡◌, ◌≢◌, ◌⊎◌, ℕ, ◌<◌, ◌≤◌, ◌==◌, Bool, true, false, not, ◌&&◌, ⊤, List, ◌++◌, length, slice_index_or, IfSome, Result, Ok, Err}
 use Rattle.std.specs.List.{All, Contains}
 use Rattle.clash.specs.Closures.{IsClosureOf}

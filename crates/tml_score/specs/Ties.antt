@@ -1,4 +1,4 @@
--- Ties: orders of points that are at one place.
+-- Serves the code: ties: orders of points that are at one place.
 use Rattle.std.specs.Prelude.{◌≡◌, ℕ, ◌<◌, List, length}
 use Rattle.std.specs.List.{All, Contains}
 use Rattle.net_orders.specs.declared.orders.Order.{Order}

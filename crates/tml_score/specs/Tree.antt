@@ -1,4 +1,4 @@
--- A tree: orders that lead from the root of each place to its points, or from these back to it.
+-- Serves the code: a tree: orders that lead from the root of each place to its points, or from these back to it.
 use Rattle.std.specs.Prelude.{◌≡◌, ◌⊎◌, ℕ, ◌+◌, ◌<◌, ◌≤◌, Bool, true, false, List, length, Option, Some, None, slice_index, slice_index_or, slice_set}
 use Rattle.std.specs.List.{All, Contains}
 use Rattle.net_orders.specs.Orders.{is_of}

@@ -1,4 +1,4 @@
--- Trees onward from the roots of all places, and back to them.
+-- Serves the code: trees onward from the roots of all places, and back to them.
 use Rattle.std.specs.Prelude.{ℕ}
 use Rattle.std.specs.Bool.{OnTrue}
 use Rattle.tml_score.specs.Search.{Basis}

@@ -1,4 +1,4 @@
--- Units that are checked and not kept.
+-- Serves the code: units that are checked and not kept.
 use Rattle.std.specs.Prelude.{◌≡◌, ℕ, List, [], ◌∷◌, ◌++◌, map, Option, Some, None, MatchOption}
 use Rattle.tml_span.specs.declared.check.Checked.{Checked}
 use Rattle.tml_span.specs.Cutting.{Stops, FindsUnit}

@@ -29,8 +29,8 @@ abbrev pub IsReading : Reading → Type 0
 IsReading r = (length r.source < 2 ^ 32) × (given : List PlainUnit) × (left : List PlainUnit) × Divides r given left
 
 -- a reader of this source that has given no unit
-abbrev pub Begins : List ℕ → Reading → Type 0
-Begins source r = (r ≡ record { source = source; place = 0 }) × CutsWhole source
+abbrev pub BeginsReading : List ℕ → Reading → Type 0
+BeginsReading source r = (r ≡ record { source = source; place = 0 }) × CutsWhole source
 
 -- What a pull gives: the first of the units that are left, or none where none is left. A refusal changes nothing.
 abbrev pub GivesUnit : Reading → Reading → Result (Option rust.Unit) Memory → Type 0

@@ -1,4 +1,4 @@
--- Reading one unit from left to right.
+-- Serves the code: reading one unit from left to right.
 use Rattle.std.specs.Prelude.{◌≡◌, ℕ, ◌+◌, ◌-◌, Bool, ◌==◌, List, [], ◌∷◌, length, take, drop, Option, Some, None, option_and_then, codes, if◌then◌else◌}
 use Rattle.std.specs.List.{prefix_len}
 use Rattle.tml_span.specs.Bytes.{byte, is_white, is_name_start, is_name_byte, is_quote, is_value_byte}

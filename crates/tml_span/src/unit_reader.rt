@@ -1,7 +1,7 @@
 //! The units of a source that has no fault, one by one.
 ghost use Rattle.std.specs.Prelude.{◌≡◌, ◌<◌, ◌^◌, length, IfOk, IfErr};
 ghost use Rattle.tml_span.specs.Faults.{HasPlainFault};
-ghost use Rattle.tml_span.specs.Reader.{Begins};
+ghost use Rattle.tml_span.specs.Reader.{BeginsReading};
 
 use crate::fault::PlainCut;
 use crate::{Cutter, Memory, Unit};
@@ -33,7 +33,7 @@ impl<'s> Model for UnitReader<'s> {
 /// The fault of the source, where it has one.
 pub fn reader<'s>(source: &'s [u8]) -> Result<UnitReader<'s>, PlainCut>
     requires { length source.now < 2 ^ 32 }
-    ensures ok { IfOk result (λ r. Begins source.now r) }
+    ensures ok { IfOk result (λ r. BeginsReading source.now r) }
     ensures err { IfErr result (λ e. HasPlainFault source.now e) }
 {
     let cutter = Cutter::new(source)?;

@@ -10,9 +10,11 @@ use Rattle.evidence_answers.proofs.Accepting.{accepted}
 use Rattle.evidence_answers.proofs.VerifyAnswered.{verify_answered}
 use Rattle.evidence_check.specs.Claims.{ShowsTruth}
 use Rattle.evidence_check.specs.Supported.{IsSupported}
-use Rattle.evidence_format.specs.Evidence.{clash, counter, entails, timeline}
+use Rattle.evidence_format.specs.Evidence.{PlainEvidence, clash, counter, entails, timeline}
 use Rattle.evidence_format.proofs.Claims.{all_of_one}
-use Rattle.net_answers.specs.Nets.{HasEvidence, NetAnswers, of_net}
+use Rattle.net_answers.specs.Nets.{NetAnswers, of_net}
+use Rattle.net_answers.specs.Showing.{ShowsEvidence}
+use Rattle.net_build.specs.Built.{IsNetOf}
 use Rattle.net_core.specs.Limits.{max_evidence}
 use Rattle.net_core.specs.Nets.{PlainNet}
 use Rattle.net_core.specs.Ranks.{pairs_of}
@@ -42,6 +44,15 @@ use Rattle.tml_tool.specs.declared.commands.Form.{Form}
 use Rattle.tml_tool.specs.declared.commands.Form.TheVariants.{Solve, Ask, Relations, Possible, Matrix, Reduce, Score}
 
 -- ---- what is printed is evidence
+
+-- the document is accepted, and the text is that of evidence that its net supports
+pub record HasEvidence (doc text : List ℕ) : Type 0 where
+  pub contents : PlainDocument
+  pub net : PlainNet
+  pub evidence : PlainEvidence
+  pub says : Says doc contents
+  pub built : IsNetOf contents net
+  pub shows : ShowsEvidence net evidence text
 
 -- answers of a status to an accepted document that are evidence of its net
 abbrev AreEvidence : Contents → Status → Type 0

@@ -75,14 +75,14 @@ takes Drill (number ∷ []) = is_some (drill_number number)
 takes form arguments = true
 
 -- how long the files of a form may be, in the order of reading
-abbrev pub limits_of : Form → List ℕ
-limits_of Verify = max_document ∷ max_evidence ∷ []
-limits_of Drill = []
-limits_of Renew = max_evidence ∷ []
-limits_of Join = max_evidence ∷ max_evidence ∷ []
-limits_of Score = max_document ∷ max_document ∷ []
-limits_of Confirm = max_document ∷ max_evidence ∷ []
-limits_of form = max_document ∷ []
+abbrev pub file_limits : Form → List ℕ
+file_limits Verify = max_document ∷ max_evidence ∷ []
+file_limits Drill = []
+file_limits Renew = max_evidence ∷ []
+file_limits Join = max_evidence ∷ max_evidence ∷ []
+file_limits Score = max_document ∷ max_document ∷ []
+file_limits Confirm = max_document ∷ max_evidence ∷ []
+file_limits form = max_document ∷ []
 
 -- What comes next, by the arguments of a form. With fewer or more of them words have no form.
 abbrev pub rows_with : Form → List (List ℕ) → Rows
@@ -131,12 +131,12 @@ form_of (word ∷ arguments) = with_arguments arguments_of takes arguments (name
 -- How many calls the files of a form take at most, and none without a form.
 abbrev pub most_calls : Option (Form × List (List ℕ)) → ℕ
 most_calls None = 0
-most_calls (Some asked) = calls_for (limits_of asked.0)
+most_calls (Some asked) = calls_for (file_limits asked.0)
 
 -- How many files a form reads at most, and none without a form.
 abbrev pub most_files : Option (Form × List (List ℕ)) → ℕ
 most_files None = 0
-most_files (Some asked) = length (limits_of asked.0)
+most_files (Some asked) = length (file_limits asked.0)
 
 -- the rows of a form with its arguments, or of words that have no form
 abbrev pub rows_of : Option (Form × List (List ℕ)) → Rows

@@ -63,7 +63,7 @@ pub fn run<I: Inputs, S: Sink>(
     ensures usage { (result ≡ Status.Usage) ↔ (form_of (texts_of words.now) ≡ None) }
 
     // No more calls read the files than their greatest lengths ask for: each is started, and read byte by byte to its end.
-    // Nor more than two for each file beside one for each byte that was taken: no file is started twice.
+    // Nor more than two for each file of the form beside one for each byte that was taken.
     ensures calls { RisesAtMost (most_calls (form_of (texts_of words.now))) (I.calls inputs.old) (I.calls inputs.new) }
     ensures follows { CallsFollow (2 * most_files (form_of (texts_of words.now))) (I.given inputs.old) (I.given inputs.new) (I.calls inputs.old) (I.calls inputs.new) }
 

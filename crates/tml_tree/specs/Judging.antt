@@ -1,4 +1,4 @@
--- The rules of units that are judged one after another.
+-- Serves the code: the rules of units that are judged one after another.
 use Rattle.std.specs.Prelude.{◌≡◌, ℕ, Bool, true, false, List, [], ◌∷◌, map, reverse, Option, Some, None, Result, Ok, Err, ⊤, if◌then◌else◌, IfSome}
 use Rattle.std.specs.List.{filter, list_any}
 use Rattle.faults.specs.First.{NoneBreaks}

@@ -1,4 +1,4 @@
--- One unit after another: the open tags and the nodes so far.
+-- Serves the code: one unit after another: the open tags and the nodes so far.
 use Rattle.std.specs.Prelude.{ℕ, List, [], ◌∷◌, ◌++◌, Option, Some, None, option_and_then, if◌then◌else◌}
 use Rattle.std.specs.Str.{bytes_eq}
 use Rattle.tml_span.specs.Units.{bom, declaration, doctype, comment, text, start_tag, end_tag, empty_tag, PlainUnit}

@@ -1,4 +1,4 @@
--- A builder that takes one unit after another.
+-- Serves the code: a builder that takes one unit after another.
 use Rattle.std.specs.Prelude.{◌≡◌, List, map, Some}
 use Rattle.tml_span.specs.Units.{PlainUnit}
 use Rattle.tml_tree.specs.declared.builder.Builder.{Builder}

@@ -1,4 +1,4 @@
--- Names with their first bytes as a number.
+-- Serves the code: names with their first bytes as a number.
 use Rattle.std.specs.Prelude.{◌+◌, ◌*◌, ◌%◌, ◌^◌, ℕ, Bool, ◌&&◌, ◌==◌, List, [], ◌∷◌, take}
 use Rattle.std.specs.Cmp.Lexicographic.{slice_cmp}
 use Rattle.std.specs.Ordering.{nat_cmp, ordering_then}

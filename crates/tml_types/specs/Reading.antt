@@ -1,4 +1,4 @@
--- What the attributes of a tag say, one by one: what the private contracts say of reading them.
+-- Serves the code: what the attributes of a tag say, one by one: what the private contracts say of reading them.
 use Rattle.std.specs.Prelude.{◌≡◌, ◌⊎◌, ℕ, Bool, true, false, not, ◌&&◌, ◌||◌, List, Option, Some, None, map, option_map}
 use Rattle.tml_span.specs.Units.{Attribute}
 use Rattle.tml_span.specs.View.{attribute_of}

@@ -1,4 +1,4 @@
--- How the tags of a tree are typed, one after another: what the private contracts say.
+-- Serves the code: how the tags of a tree are typed, one after another: what the private contracts say.
 use Rattle.std.specs.Prelude.{◌≡◌, ℕ, true, false, List, [], ◌∷◌, ◌++◌, map, codes, Option}
 use Rattle.std.specs.Option.{option_to_list}
 use Rattle.std.specs.List.{All, list_any}

@@ -72,7 +72,7 @@ pub fn run<I: Inputs, S: Sink>(
     ensures usage { (result ≡ Status.Usage) ↔ (asked_of (texts_of words.now) ≡ None) }
 
     // No more calls read the files than their greatest lengths ask for: each is started, and read byte by byte to its end.
-    // Nor more than four beside one for each byte that was taken: neither file is started twice.
+    // Nor more than four beside one for each byte that was taken.
     ensures calls { RisesAtMost (most_calls (asked_of (texts_of words.now))) (I.calls inputs.old) (I.calls inputs.new) }
     ensures follows { CallsFollow 4 (I.given inputs.old) (I.given inputs.new) (I.calls inputs.old) (I.calls inputs.new) }
 

@@ -1,4 +1,4 @@
--- Steps with the orders that they go by.
+-- Serves the code: steps with the orders that they go by.
 use Rattle.std.specs.Prelude.{◌≡◌, ◌↔◌, ◌⊎◌, ℕ, ⊤, Bool, List, Some}
 use Rattle.std.specs.List.{Contains}
 use Rattle.std.specs.List.Sorted.{IsNonDecreasingBy}

@@ -1,4 +1,4 @@
--- The steps that a walk may take.
+-- Serves the code: the steps that a walk may take.
 use Rattle.std.specs.Prelude.{◌≡◌, ◌⊎◌, ℕ, ◌<◌, int_lt, List, Some}
 use Rattle.std.specs.List.{All, Any, Contains}
 use Rattle.net_core.specs.Nets.{PlainNet, lower, points}

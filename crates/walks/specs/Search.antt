@@ -1,4 +1,4 @@
--- What a search from one point to another has visited.
+-- Serves the code: what a search from one point to another has visited.
 use Rattle.std.specs.Prelude.{◌≡◌, ◌⊎◌, ℕ, ◌<◌, Bool, length}
 use Rattle.net_core.specs.Nets.{PlainNet, points}
 use Rattle.walks.specs.Graphs.{IsWay}

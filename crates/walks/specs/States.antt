@@ -1,4 +1,4 @@
--- The states that a search visits: points, with whether a step on the way was strict.
+-- Serves the code: the states that a search visits: points, with whether a step on the way was strict.
 use Rattle.std.specs.Prelude.{◌≡◌, ◌⊎◌, ℕ, ◌+◌, ◌*◌, ◌/◌, ◌%◌, ◌<◌, ◌==◌, Bool, true, false, not, ◌&&◌, ◌||◌, List, [], ◌∷◌, ◌++◌, length, count_by, Some, None, IfSome, slice_index_or, if◌then◌else◌}
 use Rattle.std.specs.List.{All, Any}
 use Rattle.net_core.specs.declared.step.Step.{Step}
