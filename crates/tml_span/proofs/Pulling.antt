@@ -106,7 +106,10 @@ module _ (r : Reading) (cut : IsCutSoFar r) (bytes : List ℕ) (is : bytes ≡ l
     source_here : r.source ≡ (splits_here r cut.1 cut.2).before ++ (found.0 ++ after)
     source_here = let s = splits_here r cut.1 cut.2 in s.whole ∙ ap (λ (bs : List ℕ). s.before ++ bs) (sym is ∙ found.1)
 
-    left_next : left_of next ≡ after
+    pub here_in : UnitIsIn r.source u
+    here_in = let s = splits_here r cut.1 cut.2 in unit_is_in r.source s.before after found.0 r.place u source_here s.place found.2
+
+    pub left_next : left_of next ≡ after
     left_next =
         let s = splits_here r cut.1 cut.2 in
         let place : next.place ≡ length (s.before ++ found.0) = omega (arith, len, s.place, length-append s.before found.0) in
@@ -128,8 +131,7 @@ module _ (r : Reading) (cut : IsCutSoFar r) (bytes : List ℕ) (is : bytes ≡ l
 
       pub moves_on : (next.source ≡ r.source) × (r.place < next.place) × (next.place ≤ length r.source) × UnitIsIn r.source u × ((given : List PlainUnit) → HasCut r given → HasCut next (given ++ u ∷ []))
       moves_on =
-          let s = splits_here r cut.1 cut.2 in
-          (refl, omega (arith, shorter), omega (arith, here), unit_is_in r.source s.before after found.0 r.place u source_here s.place found.2, cuts_more)
+          (refl, omega (arith, shorter), omega (arith, here), here_in, cuts_more)
 
 -- ---- a source that has no fault
 

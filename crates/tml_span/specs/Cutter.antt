@@ -1,5 +1,5 @@
 -- How far a source has been cut, where nothing is known of what follows.
-use Rattle.std.specs.Prelude.{◌≡◌, ℕ, ◌<◌, ◌≤◌, ◌^◌, List, [], ◌∷◌, ◌++◌, drop, length, IsUtf8, Some, None, Ok, Err}
+use Rattle.std.specs.Prelude.{◌≡◌, ◌≢◌, ℕ, ◌<◌, ◌≤◌, ◌^◌, slice_index, List, [], ◌∷◌, ◌++◌, drop, length, IsUtf8, Some, None, Ok, Err}
 use Rattle.std.specs.declared.result.Result.{Result}
 use Rattle.std.specs.declared.option.Option.{Option}
 use Rattle.tml_span.specs.declared.unit.Unit as rust
@@ -34,3 +34,7 @@ CutsOn old new (Ok (Some u)) = (new.source ≡ old.source) × (old.place < new.p
     × ((given : List PlainUnit) → HasCut old given → HasCut new (given ++ unit_of u ∷ []))
 CutsOn old new (Ok None) = (new ≡ old) × (old.place ≡ length old.source) × ((given : List PlainUnit) → HasCut old given → IsWhole (record { source = old.source; units = given }))
 CutsOn old new (Err cut) = (new ≡ old) × HasCutFault old.source cut
+
+-- no `&` stands from a place up to another one
+abbrev pub IsClear : List ℕ → ℕ → ℕ → Type 0
+IsClear source place clear = (k : ℕ) → place ≤ k → k < clear → slice_index source k ≢ 38

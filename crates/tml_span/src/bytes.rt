@@ -1,5 +1,5 @@
 //! Kinds of bytes, and how long the run of one kind is at the start.
-ghost use Rattle.std.specs.Prelude.{◌≡◌, ◌≤◌, length};
+ghost use Rattle.std.specs.Prelude.{ℕ, ◌≡◌, ◌≢◌, ◌<◌, ◌≤◌, length, slice_index};
 ghost use Rattle.memchr.specs.Find.{IsFirstByte, is_byte};
 ghost use Rattle.std.specs.List.{prefix_len};
 ghost use Rattle.tml_span.specs.Bytes as kinds;
@@ -111,6 +111,17 @@ pub fn ampersand_at(bytes: &[u8]) -> Option<usize>
         position_of(b'&', bytes)
     } else {
         memchr::memchr(b'&', bytes)
+    }
+}
+
+/// How many bytes stand before the first `&`.
+pub fn clear_len(bytes: &[u8]) -> usize
+    ensures within { result ≤ length bytes.now }
+    ensures clear { (k : ℕ) → k < result → slice_index bytes.now k ≢ 38 }
+{
+    match memchr::memchr(b'&', bytes) {
+        Some(len) => len,
+        None => bytes.len(),
     }
 }
 

@@ -1,12 +1,13 @@
 //! A source cut into its units, and judged, as they are asked for.
-ghost use Rattle.std.specs.Prelude.{◌<◌, ◌^◌, ◌≡◌, length, drop, IfOk, IfErr, OnOk};
+ghost use Rattle.std.specs.Prelude.{◌+◌, ◌<◌, ◌≤◌, ◌^◌, ◌≡◌, true, length, drop, IfOk, IfErr, OnOk};
 ghost use Rattle.tml_span.specs.Cutter.{BeginsCut};
 ghost use Rattle.tml_span.specs.Faults.{HasPlainFault};
 
 use crate::Unit;
+use crate::bytes::clear_len;
 use crate::check::check_units;
 use crate::fault::{Cut, PlainCut, cut_of};
-use crate::references::bad_reference_in;
+use crate::references::{bad_reference_in, has_pieces};
 use crate::scan::unit_at;
 use std::alloc::Global;
 use std::marker::Model;
@@ -17,22 +18,31 @@ use std::marker::Model;
 pub struct Cutter<'s> {
     source: &'s [u8],
     place: u32,
+    /// No `&` stands from the place up to here: a unit that ends by then has no reference.
+    clear: u32,
 }
 
+/// How long a unit is at least after which the next `&` is looked for: after short ones it would take longer than to look
+/// through the next unit.
+const LONG: u32 = 16;
+
 impl<'s> Model for Cutter<'s> {
-    ghost use Rattle.tml_span.specs.Cutter.{IsCutSoFar};
+    ghost use Rattle.tml_span.specs.Cutter.{IsClear, IsCutSoFar};
     ghost use Rattle.tml_span.specs.Reader.{Reading};
 
     ghost Value = { Reading };
 
     ghost view = { λ a. record { source = a.source.now; place = a.place } };
 
-    ghost invariant = { λ a. IsCutSoFar (record { source = a.source.now; place = a.place }) };
+    ghost invariant = { λ a. IsCutSoFar (record { source = a.source.now; place = a.place }) × IsClear a.source.now a.place a.clear };
 }
 
 impl<'s> Cutter<'s> {
-    ghost use Rattle.tml_span.specs.Cutter.{CutsOn, IsCutSoFar};
+    ghost use Rattle.tml_span.specs.Cutter.{CutsOn, IsClear, IsCutSoFar};
     ghost use Rattle.tml_span.specs.Faults.{HasCutFault};
+    ghost use Rattle.tml_span.specs.References.{HasPiecesInOrder, IsBadIn, IsNowhere, pieces_of};
+    ghost use Rattle.tml_span.specs.Slices.{UnitIsIn};
+    ghost use Rattle.tml_span.specs.View.{unit_of};
     ghost use Rattle.tml_span.specs.Whole.{CutsWhole};
 
     /// Looks at the bytes of a source of fewer than 2^32, which takes no memory. No unit was given.
@@ -46,7 +56,11 @@ impl<'s> Cutter<'s> {
         ensures err { IfErr result (λ e. HasPlainFault source.now e) }
     {
         match simdutf8::compat::from_utf8(source) {
-            Ok(_) => Ok(Cutter { source, place: 0 }),
+            Ok(_) => Ok(Cutter {
+                source,
+                place: 0,
+                clear: 0,
+            }),
             Err(e) => Err(PlainCut::NotUtf8 {
                 place: e.valid_up_to() as u32,
             }),
@@ -100,10 +114,16 @@ impl<'s> Cutter<'s> {
             }
             return Err(Cut::BadMarkup { place: self.place });
         };
+        let end = self.place + (left.len() - rest.len()) as u32;
+        if self.is_clear(&unit, end) {
+            self.place = end;
+            return Ok(Some(unit));
+        }
         if let Some(place) = bad_reference_in(&unit) {
             return Err(Cut::BadReference { place });
         }
-        self.place += (left.len() - rest.len()) as u32;
+        self.clear = self.clear_after(end, rest);
+        self.place = end;
         Ok(Some(unit))
     }
 
@@ -115,6 +135,38 @@ impl<'s> Cutter<'s> {
             Ok(()) => Cut::Memory,
             Err(fault) => cut_of(fault),
         }
+    }
+
+    /// Whether no reference of the unit at the place, which ends there, is to be looked at: no `&` stands up to its end, or
+    /// it is of a kind that has none.
+    #[inline(always)]
+    fn is_clear(&self, unit: &Unit<'_>, end: u32) -> bool
+        requires order { HasPiecesInOrder (unit_of unit.now) }
+        requires inside { UnitIsIn self.now.source (unit_of unit.now) }
+        requires start { (unit_of unit.now).start ≡ self.now.place }
+        requires end { (unit_of unit.now).end ≡ end }
+        ensures { result ≡ true → IsNowhere (IsBadIn (pieces_of (unit_of unit.now))) }
+    {
+        if end <= self.clear {
+            return true;
+        }
+        !has_pieces(unit)
+    }
+
+    /// Up to where no `&` stands from the end of the unit at the place, so far as that is known or soon found.
+    fn clear_after(&self, end: u32, rest: &[u8]) -> u32
+        requires place { self.now.place ≤ end }
+        requires rest { rest.now ≡ drop end self.now.source }
+        requires small { end + length rest.now < 2 ^ 32 }
+        ensures { IsClear self.now.source end result }
+    {
+        if end <= self.clear {
+            return self.clear;
+        }
+        if end - self.place < LONG {
+            return end;
+        }
+        end + clear_len(rest) as u32
     }
 
     /// What follows the place.

@@ -1,5 +1,5 @@
 //! References in texts and values, and the first that is bad.
-ghost use Rattle.std.specs.Prelude.{◌≡◌, ◌↔◌, ◌+◌, ◌<◌, ◌≤◌, ◌^◌, ℕ, [], ◌∷◌, length, IsTrue, IfSome, MatchOption, map, nat_eq, Some};
+ghost use Rattle.std.specs.Prelude.{◌≡◌, ◌↔◌, ◌+◌, ◌<◌, ◌≤◌, ◌^◌, ℕ, false, [], ◌∷◌, length, IsTrue, IfSome, MatchOption, map, nat_eq, Some};
 ghost use Rattle.std.specs.List.{AllByRecursion, list_any, starts_with};
 ghost use Rattle.tml_span.specs.References.{named_references, Begins, IsClosed, IsDecimalReference, IsHexReference, BeginsReference, FirstBadIn, IsBadAt, IsLeastPlace, IsNowhere, HasPiecesInOrder, IsWithin, FollowEachOther, pieces_of, value_piece};
 ghost use Rattle.tml_span.specs.View.{unit_of, attribute_of};
@@ -108,6 +108,17 @@ fn bad_value(attrs: &[Attr]) -> Option<u32>
         }
     }
     None
+}
+
+/// Whether references may be in a unit: it is a text, or a tag with attributes.
+pub fn has_pieces(unit: &Unit) -> bool
+    ensures { result ≡ false → pieces_of (unit_of unit.now) ≡ [] }
+{
+    match unit {
+        Unit::Text { .. } => true,
+        Unit::StartTag { attrs, .. } | Unit::EmptyTag { attrs, .. } => !attrs.as_slice().is_empty(),
+        _ => false,
+    }
 }
 
 /// The place of the first bad reference in a unit.
