@@ -75,10 +75,6 @@ no_bad source u clear inside order is_clear within place bad =
 pub clear_later : (source : List ℕ) (place later clear : ℕ) → place ≤ later → IsClear source place clear → IsClear source later clear
 clear_later source place later clear le is_clear k from below = is_clear k (omega (arith, le, from)) below
 
--- nothing is between a place and itself
-pub clear_here : (source : List ℕ) (place : ℕ) → IsClear source place place
-clear_here source place k from below = absurd (omega (arith, from, below))
-
 -- the first bytes of what follows a place have no `&`
 pub clear_ahead : (source rest : List ℕ) (place n : ℕ) → rest ≡ drop place source → ((k : ℕ) → k < n → slice_index rest k ≡ 38 → ⊥) → IsClear source place (place + n)
 clear_ahead source rest place n is none k from below e =

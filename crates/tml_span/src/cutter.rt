@@ -153,16 +153,13 @@ impl<'s> Cutter<'s> {
         !has_pieces(unit)
     }
 
-    /// Up to where no `&` stands from the end of the unit at the place, so far as that is known or soon found.
+    /// Up to where no `&` stands from the end of the unit at the place, so far as it is looked for.
     fn clear_after(&self, end: u32, rest: &[u8]) -> u32
         requires place { self.now.place ≤ end }
         requires rest { rest.now ≡ drop end self.now.source }
         requires small { end + length rest.now < 2 ^ 32 }
         ensures { IsClear self.now.source end result }
     {
-        if end <= self.clear {
-            return self.clear;
-        }
         if end - self.place < LONG {
             return end;
         }
