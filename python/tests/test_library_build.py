@@ -31,6 +31,13 @@ class Needed(unittest.TestCase):
 class Build(unittest.TestCase):
     """A copy of the tool, over three crates that `rt ci` seems to have proved, with a kit whose prover hands over the archive."""
 
+    c_of_kit: str
+
+    @classmethod
+    def setUpClass(cls) -> None:
+        said = subprocess.run(["rt", "doc"], capture_output=True, text=True, check=True, timeout=60).stdout.strip()
+        cls.c_of_kit = os.path.join(os.path.dirname(os.path.realpath(said)), "c")
+
     def setUp(self) -> None:
         held = tempfile.TemporaryDirectory(prefix="library-build-")
         self.addCleanup(held.cleanup)
@@ -44,9 +51,8 @@ class Build(unittest.TestCase):
         for name in ("low", "high"):
             (self.top / "crates" / name / f"out/rlib/{name}.rlib").mkdir(parents=True)
         self.out, self.kit = self.top / "crates/tml_c/out", self.top / "kit"
-        said = subprocess.run(["rt", "doc"], capture_output=True, text=True, check=True, timeout=60).stdout.strip()
         (self.kit / "bin").mkdir(parents=True)
-        (self.kit / "c").symlink_to(os.path.join(os.path.dirname(os.path.realpath(said)), "c"))
+        (self.kit / "c").symlink_to(self.c_of_kit)
         self.program("rt", f"echo {self.kit}/START-HERE.md")
 
     def program(self, name: str, text: str) -> None:
