@@ -1,10 +1,10 @@
 """Runs all tests of the Python code: `tools/tests`, or those of some files: `tools/tests test_check test_fix`. With `--installed` before
 these they are of what `pip install` installs, into a folder for this run, and not of the clone.
 
-The last line is `N passed, 0 failed`, and the status is 0 where none failed. Each file of tests is run in a process of its own, as many
-at once as there are processors; those that take longest begin first. These processes are forked from this one, which has imported what
-the files share: to do that in each of them took a tenth of the time of all tests. What is skipped for want of another program is named,
-and counts as neither.
+The last line is `N passed, 0 failed`, and the status is 0 where none failed. Each file of tests is run in a process of its own, one more
+at once than there are processors, since in many of them something is waited for; those that take longest begin first. These processes are
+forked from this one, which has imported what the files share: to do that in each of them took a tenth of the time of all tests. What is
+skipped for want of another program is named, and counts as neither.
 """
 
 import os
@@ -21,11 +21,12 @@ from installing import installed
 from one_file import Ran, run
 
 LONGEST = (
-    "test_attacks_documents", "test_library", "test_differential", "test_library_rows", "test_recipes", "test_serve", "test_small_nets",
-    "test_refused_memory", "test_attacks_output", "test_timeline", "test_cluster", "test_report", "test_attacks_programs", "test_reference",
-    "test_corpus_library", "test_matrix", "test_attacks_room",
+    "test_attacks_documents", "test_library_rows", "test_library", "test_recipes", "test_corpus_library", "test_differential",
+    "test_small_nets", "test_refused_memory", "test_pool", "test_reference", "test_cluster", "test_serve", "test_attacks_output",
+    "test_attacks_room", "test_timeline", "test_report", "test_python", "test_matrix", "test_package", "test_misuse", "test_placed",
+    "test_explain", "test_installed", "test_serve_protocol", "test_inquiry", "test_attacks_programs", "test_check", "test_cures",
 )  # fmt: skip
-"""The files of tests that take longest."""
+"""The files of tests that take longest, or wait longest."""
 
 
 def chosen(words: Sequence[str]) -> list[str]:
@@ -63,11 +64,11 @@ def run_all(names: Sequence[str]) -> int:
 
 
 def in_processes(names: Sequence[str]) -> Iterator[tuple[str, Ran]]:
-    """Runs each of these files in a forked process, as many at once as there are processors, and gives what came of it as it ends."""
-    fork, waiting = get_context("fork"), list(reversed(names))
+    """Runs each of these files in a forked process, one more at once than there are processors, and gives what came of it as it ends."""
+    fork, waiting, at_once = get_context("fork"), list(reversed(names)), len(os.sched_getaffinity(0)) + 1
     running: dict[Connection, tuple[str, BaseProcess]] = {}
     while waiting or running:
-        while waiting and len(running) < len(os.sched_getaffinity(0)):
+        while waiting and len(running) < at_once:
             name = waiting.pop()
             ours, theirs = fork.Pipe(duplex=False)
             child = fork.Process(target=send, args=(name, theirs))

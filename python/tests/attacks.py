@@ -10,6 +10,7 @@ from typing import IO
 
 from corpus import CLASH, TML, TOOLS, CorpusTest, document
 from forked import run_forked
+from processes import BARE
 
 Stream = int | IO[bytes] | None
 
@@ -78,7 +79,7 @@ class AttackTest(CorpusTest):
         """Starts a command of a table in the folder, behind the words of a program that starts it, if there are some."""
         name, *words = [os.path.abspath(tml) if word == "TML" else word for word in command.split(" ")]
         return subprocess.Popen(
-            [*before, sys.executable, os.path.join(TOOLS, name), *words],
+            [*before, *BARE, os.path.join(TOOLS, name), *words],
             cwd=self.folder,
             env=ENVIRONMENT,
             stdin=stdin,

@@ -13,7 +13,7 @@ from typing import TypeVar
 
 from forked import run_forked
 from installing import INSTALLED
-from processes import with_own_bytecode
+from processes import BARE, with_own_bytecode
 from tml.statuses import DOCUMENT_LIMIT
 
 Value = TypeVar("Value")
@@ -117,7 +117,7 @@ class CorpusTest(unittest.TestCase):
     def start(self, *words: str, tml: str = TML, python: str = sys.executable) -> subprocess.Popen[bytes]:
         command, *rest = words
         return subprocess.Popen(
-            [python, COMPANION, command, "--tml", tml, *rest],
+            [*(BARE if python == sys.executable else (python,)), COMPANION, command, "--tml", tml, *rest],
             cwd=self.folder,
             stdin=subprocess.DEVNULL,
             stdout=subprocess.PIPE,

@@ -7,6 +7,9 @@ import time
 from collections.abc import Callable
 from pathlib import Path
 
+BARE = (sys.executable, "-S")
+"""This interpreter without the packages of its machine, and what they do whenever it begins: the tools need none of them."""
+
 
 def is_running(number: int) -> bool:
     """Whether a process is there and not only waited for."""

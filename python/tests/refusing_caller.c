@@ -112,13 +112,21 @@ static void deviate(const char *what, uint64_t first, const struct reply *reply)
            what, (unsigned)reply->status, reply->needed, heap.held);
 }
 
-static void refuse(const struct bytes *given, struct reply *reply, const struct reply *wanted, uint64_t first, int alone) {
-    uint64_t asked = call(given, reply, first, alone ? first : UINT64_MAX);
+static void judge(const struct reply *reply, const struct reply *wanted, uint64_t first, uint64_t asked, const char *what) {
     int no_memory = is_no_memory(reply);
     found.refusals++;
     found.no_memory += (uint64_t)no_memory;
     if (asked < first || heap.held != 0 || !(no_memory || is_as_ever(reply, wanted)))
-        deviate(alone ? "alone" : "with all after it", first, reply);
+        deviate(what, first, reply);
+}
+
+/* Where nothing is asked for after the one that is refused alone, the call is the one in which all after it are refused too. */
+static void refuse(const struct bytes *given, struct reply *reply, const struct reply *wanted, uint64_t first) {
+    uint64_t asked = call(given, reply, first, first);
+    judge(reply, wanted, first, asked, "alone");
+    if (asked > first)
+        asked = call(given, reply, first, UINT64_MAX);
+    judge(reply, wanted, first, asked, "with all after it");
 }
 
 static void refuse_all(const struct bytes *given) {
@@ -137,8 +145,7 @@ static void refuse_all(const struct bytes *given) {
         count = 0;
     }
     for (uint64_t first = 1; first <= count; first++)
-        for (int alone = 0; alone < 2; alone++)
-            refuse(given, &reply, &wanted, first, alone);
+        refuse(given, &reply, &wanted, first);
     found.allocations += count;
     __real_free(wanted.text);
     __real_free(reply.text);

@@ -1,16 +1,12 @@
 """Documents made to cost much: 26 of them."""
 
-import re
 import unittest
 from collections.abc import Callable
 
-from attacks import AttackTest
+from attacks import AttackTest, Ended
 from tml.statuses import DOCUMENT_LIMIT, INTERVAL_LIMIT, LINK_LIMIT
 
-INSTANCES = b"".join(b'<MAKEINSTANCE eiid="i%d" eventID="e%d"/>' % (number, number % 30) for number in range(INTERVAL_LIMIT))
 LINK = b'<TLINK eventInstanceID="i%d" relatedToEventInstance="i%d" relType="%s"/>'
-LINKS = b"".join(LINK % (number % INTERVAL_LIMIT, number * 7 % INTERVAL_LIMIT, b"SIMULTANEOUS") for number in range(LINK_LIMIT))
-CIRCLE = b"".join(LINK % (number, (number + 1) % INTERVAL_LIMIT, b"BEFORE") for number in range(INTERVAL_LIMIT))
 TOUCHING = (
     b'<TimeML><TIMEX3 tid="a" type="DATE" value="1998"/><TIMEX3 tid="b" type="DATE" value="1999"/><TLINK timeID="a" relatedToTime="b" '
     b'relType="BEFORE"/>'
@@ -19,26 +15,48 @@ FREE_DATES = b"".join(b'<TIMEX3 tid="t%d" type="DATE" value="XXXX-12-25"/>' % nu
 NESTED = b"".join(b'<EVENT eid="e%d" class="STATE">' % number for number in range(30))
 
 
-def filled(before: bytes, part: bytes, after: bytes) -> bytes:
-    """As much of a part as a document may have between what stands before and after it."""
-    return before + part * ((DOCUMENT_LIMIT - len(before) - len(after)) // len(part)) + after
+def filled(size: int, before: bytes, part: bytes, after: bytes) -> bytes:
+    """As much of a part as so many bytes have room for between what stands before and after it."""
+    return before + part * ((size - len(before) - len(after)) // len(part)) + after
 
 
-def one_event(links: bytes) -> bytes:
-    """One event with 1,024 instances and a text of some million characters."""
-    instances = re.sub(b'eventID="e[0-9]+"', b'eventID="e0"', INSTANCES)
-    return filled(b'<TimeML><EVENT eid="e0" class="STATE">', b"word ", b"</EVENT>" + instances + links + b"</TimeML>\n")
+def intervals(size: int) -> int:
+    """How many intervals a document of so many bytes gets: a whole one as many as there may be."""
+    return INTERVAL_LIMIT * size // DOCUMENT_LIMIT
 
 
-def nested(part: bytes) -> bytes:
+def instances(size: int, events: int) -> bytes:
+    """Instances of so many events in turn."""
+    return b"".join(b'<MAKEINSTANCE eiid="i%d" eventID="e%d"/>' % (number, number % events) for number in range(intervals(size)))
+
+
+def same(size: int) -> bytes:
+    """Links by which many instances are the same: in a whole document as many as there may be."""
+    count = intervals(size)
+    return b"".join(LINK % (number % count, number * 7 % count, b"SIMULTANEOUS") for number in range(LINK_LIMIT // INTERVAL_LIMIT * count))
+
+
+def circle(size: int, relation: bytes) -> bytes:
+    """Links from each instance to the next one, and from the last one to the first."""
+    count = intervals(size)
+    return b"".join(LINK % (number, (number + 1) % count, relation) for number in range(count))
+
+
+def one_event(size: int, links: bytes) -> bytes:
+    """One event with many instances and a text that is as long as there is room for."""
+    return filled(size, b'<TimeML><EVENT eid="e0" class="STATE">', b"word ", b"</EVENT>" + instances(size, 1) + links + b"</TimeML>\n")
+
+
+def nested(size: int, part: bytes) -> bytes:
     """Thirty events in each other, with instances, and something very often within."""
-    return filled(b"<TimeML>" + NESTED, part, b"</EVENT>" * 30 + INSTANCES + CIRCLE.replace(b"BEFORE", b"IDENTITY") + b"</TimeML>\n")
+    after = b"</EVENT>" * 30 + instances(size, 30) + circle(size, b"IDENTITY") + b"</TimeML>\n"
+    return filled(size, b"<TimeML>" + NESTED, part, after)
 
 
-def numbered(before: bytes, part: bytes, after: bytes) -> bytes:
+def numbered(size: int, before: bytes, part: bytes, after: bytes) -> bytes:
     """The same where each part has its number."""
     parts: list[bytes] = []
-    room = DOCUMENT_LIMIT - len(before) - len(after)
+    room = size - len(before) - len(after)
     while room >= len(part) + 8:
         parts.append(part % len(parts))
         room -= len(parts[-1])
@@ -48,66 +66,95 @@ def numbered(before: bytes, part: bytes, after: bytes) -> bytes:
 CHECK, LINT, FIX = "tml-corpus check --tml TML d.xml", "tml-corpus check --lint --clashes --tml TML d.xml", "tml-corpus fix --tml TML d.xml"
 TIMELINE, TAGS = "tml-corpus timeline --tml TML d.xml -o d.svg", "tml-corpus tags --tml TML d.xml"
 REPORT = "tml-corpus report --tml TML d.xml -o pages"
-DOCUMENTS: dict[str, tuple[str, int, Callable[[], bytes]]] = {
-    "one long text of many instances": (TIMELINE, 0, lambda: one_event(LINKS)),
-    "one long text in a clash": ("tml-corpus clashes --tml TML d.xml", 1, lambda: one_event(CIRCLE)),
-    "nested events with tags": (TIMELINE, 0, lambda: nested(b"<P/>")),
-    "nested events with spaces": (TIMELINE, 0, lambda: nested(b"&#32;<P/>")),
-    "very many units": (TAGS, 0, lambda: filled(b"<TimeML>", b"<p/>x", b"</TimeML>\n")),
-    "very many units in a report": (REPORT, 0, lambda: filled(b"<TimeML>", b"<p/>x", b"</TimeML>\n")),
-    "very many marks in a report": (REPORT, 0, lambda: numbered(b"<TimeML>", b'<SIGNAL sid="s%d"/>', b"</TimeML>\n")),
-    "one long text of many instances in a report": (REPORT, 0, lambda: one_event(LINKS)),
-    "nested events in a report": (REPORT, 0, lambda: nested(b"&#32;<P/>")),
-    "very many lines in a report": (REPORT, 0, lambda: filled(b"<TimeML>\n", b" \n", b"</TimeML>\n")),
-    "very many attributes": (TAGS, 0, lambda: filled(b"<TimeML><P", b' a=""', b"/></TimeML>\n")),
-    "very many bad tags": (TAGS, 0, lambda: filled(b"<TimeML>", b"x", b"< " * 300 + b"</TimeML>\n")),
+DOCUMENTS: dict[str, tuple[str, int, Callable[[int], bytes]]] = {
+    "one long text of many instances": (TIMELINE, 0, lambda size: one_event(size, same(size))),
+    "one long text in a clash": ("tml-corpus clashes --tml TML d.xml", 1, lambda size: one_event(size, circle(size, b"BEFORE"))),
+    "nested events with tags": (TIMELINE, 0, lambda size: nested(size, b"<P/>")),
+    "nested events with spaces": (TIMELINE, 0, lambda size: nested(size, b"&#32;<P/>")),
+    "very many units": (TAGS, 0, lambda size: filled(size, b"<TimeML>", b"<p/>x", b"</TimeML>\n")),
+    "very many marks in a report": (REPORT, 0, lambda size: numbered(size, b"<TimeML>", b'<SIGNAL sid="s%d"/>', b"</TimeML>\n")),
+    "very many units in a report": (REPORT, 0, lambda size: filled(size, b"<TimeML>", b"<p/>x", b"</TimeML>\n")),
+    "one long text of many instances in a report": (REPORT, 0, lambda size: one_event(size, same(size))),
+    "nested events in a report": (REPORT, 0, lambda size: nested(size, b"&#32;<P/>")),
+    "very many lines in a report": (REPORT, 0, lambda size: filled(size, b"<TimeML>\n", b" \n", b"</TimeML>\n")),
+    "very many attributes": (TAGS, 0, lambda size: filled(size, b"<TimeML><P", b' a=""', b"/></TimeML>\n")),
+    "very many bad tags": (TAGS, 0, lambda size: filled(size, b"<TimeML>", b"x", b"< " * 300 + b"</TimeML>\n")),
+    "very many tags to take out": (
+        "tml-edit --tml TML --unwrap p d.xml", 0, lambda size: filled(size, b"<TimeML>", b"<p/>", b"</TimeML>\n")
+    ),
     "very many links to drop": (
         "tml-edit --tml TML --drop-links VAGUE d.xml",
         0,
-        lambda: filled(b"<TimeML>", b'<TLINK relType="VAGUE"></TLINK>', b"</TimeML>\n"),
+        lambda size: filled(size, b"<TimeML>", b'<TLINK relType="VAGUE"></TLINK>', b"</TimeML>\n"),
     ),
     "one long line with a fault": (
-        "tml-corpus check --format json --tml TML d.xml", 1, lambda: filled(b"<TimeML>", "é".encode(), b"<EVENT/></TimeML>\n")
+        "tml-corpus check --format json --tml TML d.xml", 1, lambda size: filled(size, b"<TimeML>", "é".encode(), b"<EVENT/></TimeML>\n")
     ),
-    "very many suspect events": (LINT, 0, lambda: numbered(b"<TimeML>", b'<EVENT eid="e%d" class="STATE"/>', b"</TimeML>\n")),
+    "very many suspect events": (LINT, 0, lambda size: numbered(size, b"<TimeML>", b'<EVENT eid="e%d" class="STATE"/>', b"</TimeML>\n")),
     "very many attributes of a tag that lacks one": (
-        CHECK, 1, lambda: numbered(b'<TimeML><EVENT eid="e"', b' a%d=""', b">x</EVENT></TimeML>\n")
+        CHECK, 1, lambda size: numbered(size, b'<TimeML><EVENT eid="e"', b' a%d=""', b">x</EVENT></TimeML>\n")
     ),
-    "a tag with a very long name": (CHECK, 1, lambda: filled(b"<TimeML><", b"a", b"/></TimeML>\n")),
-    "very many names in other letters": (FIX, 1, lambda: filled(b"<TimeML>", b"<Event/>", b"</TimeML>\n")),
+    "a tag with a very long name": (CHECK, 1, lambda size: filled(size, b"<TimeML><", b"a", b"/></TimeML>\n")),
+    "very many names in other letters": (FIX, 1, lambda size: filled(size, b"<TimeML>", b"<Event/>", b"</TimeML>\n")),
     "very many attributes of one name": (
-        "tml-corpus check --more 100 --tml TML d.xml", 1, lambda: filled(b"<TimeML><EVENT", b' a=""', b"/></TimeML>\n")
+        "tml-corpus check --more 100 --tml TML d.xml", 1, lambda size: filled(size, b"<TimeML><EVENT", b' a=""', b"/></TimeML>\n")
     ),
     "very many unknown attributes": (
         "tml-corpus check --lint --warn unknown-attribute --tml TML d.xml",
         0,
-        lambda: numbered(b"<TimeML", b" a%d=''", b"></TimeML>\n"),
+        lambda size: numbered(size, b"<TimeML", b" a%d=''", b"></TimeML>\n"),
     ),
     "dates that touch among very many units": (
-        "tml-edit --touching-dates --tml TML d.xml", 0, lambda: filled(TOUCHING, b"<p/>\n", b"</TimeML> \n")
+        "tml-edit --touching-dates --tml TML d.xml", 0, lambda size: filled(size, TOUCHING, b"<p/>\n", b"</TimeML> \n")
     ),
-    "a tag with a very long name that is counted": (TAGS, 1, lambda: filled(b"<TimeML><", b"a", b"/></TimeML>\n")),
-    "very many tags to take out": ("tml-edit --tml TML --unwrap p d.xml", 0, lambda: filled(b"<TimeML>", b"<p/>", b"</TimeML>\n")),
+    "a tag with a very long name that is counted": (TAGS, 1, lambda size: filled(size, b"<TimeML><", b"a", b"/></TimeML>\n")),
     "very many tags with another name": (
-        "tml-edit --tml TML --rename p=s d.xml", 0, lambda: filled(b"<TimeML>", b"<p/>\n", b"</TimeML>\n")
+        "tml-edit --tml TML --rename p=s d.xml", 0, lambda size: filled(size, b"<TimeML>", b"<p/>\n", b"</TimeML>\n")
     ),
-    "very many free dates": ("tml-corpus open --limit 1 --jobs 1 --tml TML d.xml", 0, lambda: b"<TimeML>" + FREE_DATES + b"</TimeML>\n"),
-    "very many lines": ("tml-corpus check --tml TML d.xml", 1, lambda: filled(b"<TimeML>", b"\n", b"<EVENT/></TimeML>\n")),
+    "very many lines": ("tml-corpus check --tml TML d.xml", 1, lambda size: filled(size, b"<TimeML>", b"\n", b"<EVENT/></TimeML>\n")),
 }
-"""Documents made to cost much: a command, its status, and the document."""
+"""Documents made to cost much: a command, its status, and the document with so many bytes. Of each command the first one is tried whole."""
+
+PART = 2
+"""How many times as many bytes as a smaller document the whole one has."""
+SECONDS, MEBIBYTES = 30, 400
+"""What a command may take. The aim is 5 seconds of a machine with nothing else to do; this is processor time, with room for a busy one."""
 
 
 class Documents(AttackTest):
     def test_work_and_memory_are_in_proportion(self) -> None:
-        # The aim is 5 seconds on a machine with nothing else to do. Here it is processor time, with room for a machine that is busy.
+        tried: set[str] = set()
         for name, (command, status, make) in DOCUMENTS.items():
             with self.subTest(name):
-                self.write("d.xml", make())
-                ended = self.ended(command)
-                self.assertEqual(ended.status, status, ended.out[:200] + ended.error)
-                self.assertLess(ended.seconds, 30)
-                self.assertLess(ended.mebibytes, 400)
-                self.assertLess(max(map(len, ended.out.splitlines())), 2000)
+                asked, _, _ = command.partition(" --")
+                if asked in tried and self.is_shown_by_a_part(self.judged(command, status, make(DOCUMENT_LIMIT // PART))):
+                    continue
+                tried.add(asked)
+                self.within(self.judged(command, status, make(DOCUMENT_LIMIT)))
+
+    def test_as_many_free_dates_as_there_may_be(self) -> None:
+        content = b"<TimeML>" + FREE_DATES + b"</TimeML>\n"
+        self.within(self.judged("tml-corpus open --limit 1 --jobs 1 --tml TML d.xml", 0, content))
+
+    def judged(self, command: str, status: int, content: bytes) -> Ended:
+        """A run over a document, which has to end with a status and print no long line."""
+        self.write("d.xml", content)
+        ended = self.ended(command)
+        self.assertEqual(ended.status, status, ended.out[:200] + ended.error)
+        self.assertLess(max(map(len, ended.out.splitlines())), 2000)
+        return ended
+
+    def is_shown_by_a_part(self, ended: Ended) -> bool:
+        """Whether a run over a smaller document shows that one over the whole takes no more than it may.
+
+        Work may grow with the square of the bytes, and memory with the bytes: what grows faster shows in the whole ones.
+        """
+        return ended.seconds < SECONDS / PART**2 and ended.mebibytes < MEBIBYTES / PART
+
+    def within(self, ended: Ended) -> None:
+        """A run has to take no more than it may."""
+        self.assertLess(ended.seconds, SECONDS)
+        self.assertLess(ended.mebibytes, MEBIBYTES)
 
 
 if __name__ == "__main__":

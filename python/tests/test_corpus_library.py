@@ -8,7 +8,6 @@ import os
 import shutil
 import signal
 import subprocess
-import sys
 import tempfile
 import time
 import unittest
@@ -20,13 +19,13 @@ from corpus import CLASH, EVENT, INSTANCE, SOURCES, TESTS, TML, TOOLS, TOO_LONG,
 from daemons import PYTHON, ClusterTest
 from forked import run_forked
 from installing import INSTALLED
-from processes import is_running, until, with_own_bytecode
+from processes import BARE, is_running, until, with_own_bytecode
 from tml import finding
 from tml_corpus.asking.archive import Sent, archive
 from tml_corpus.asking.libraries import AtPath, Loadable, library_of
 
 LIBRARY = os.path.abspath(os.environ.get("TML_LIBRARY") or finding.BUILT_LIBRARY)
-COMPANION = [sys.executable, os.path.join(TOOLS, "tml-corpus")]
+COMPANION = [*BARE, os.path.join(TOOLS, "tml-corpus")]
 STAND_IN = os.path.join(TESTS, "library_stand_in.c")
 FAULTY = document("<EVENT/>")
 TOUCHING = (
@@ -55,7 +54,7 @@ class LibraryTest(CorpusTest):
         if python is None and tools == TOOLS:
             ended = run_forked(program, *given, folder=self.folder, environment=environment)
             return ended.status, ended.out, ended.error
-        run = [python or sys.executable, program, *given]
+        run = [*((python,) if python else BARE), program, *given]
         done = subprocess.run(
             run, cwd=self.folder, stdin=subprocess.DEVNULL, capture_output=True, check=False, timeout=120, env=environment
         )
@@ -227,7 +226,7 @@ class WhichLibrary(LibraryTest):
         os.symlink(os.path.abspath(TML), self.path("bin/tml"))
         variables = {**os.environ, "PATH": self.path("bin") + os.pathsep + os.environ["PATH"], "TML_LIBRARY": self.stand_in()}
         for chosen, status in (("", 2), ("--tml tml", 0)):
-            words = [sys.executable, os.path.join(TOOLS, "redundant-links"), *chosen.split(), "good.xml"]
+            words = [*BARE, os.path.join(TOOLS, "redundant-links"), *chosen.split(), "good.xml"]
             done = subprocess.run(words, cwd=self.folder, env=variables, capture_output=True, check=False, timeout=60)
             self.assertEqual((done.returncode, done.stderr), (status, b""))
             self.assertEqual(b"a text that does not go with it" in done.stdout, status == 2)
@@ -354,8 +353,8 @@ class Archive(CorpusTest):
         )
         given = "import sys; from tml_corpus.asking import batch; from tml_corpus.files import finding; from tml.places import Place\n"
         given += "sys.stdout.buffer.write(batch.written((finding.Found('a'), Place(1, 2, 3), finding.CannotRead('b'))))"
-        written = subprocess.run([sys.executable, "-c", given], cwd=SOURCES, capture_output=True, check=True).stdout
-        done = subprocess.run([sys.executable, "-c", script], cwd=self.folder, input=written, capture_output=True, check=False)
+        written = subprocess.run([*BARE, "-c", given], cwd=SOURCES, capture_output=True, check=True).stdout
+        done = subprocess.run([*BARE, "-c", script], cwd=self.folder, input=written, capture_output=True, check=False)
         self.assertEqual((done.returncode, done.stdout, done.stderr), (0, b"", b""))
 
     def test_names_have_a_digest_of_all_that_is_in_it(self) -> None:
@@ -383,7 +382,7 @@ class Archive(CorpusTest):
                 f"assert Sent({package!r}, 'other').load() is None\nassert before == os.listdir(tempfile.gettempdir())\n"
             )
             with tempfile.TemporaryDirectory() as own:
-                words, variables = [sys.executable, "-c", script], {**os.environ, "TMPDIR": own}
+                words, variables = [*BARE, "-c", script], {**os.environ, "TMPDIR": own}
                 done = subprocess.run(words, cwd=self.folder, env=variables, capture_output=True, check=False)
             self.assertEqual((done.returncode, done.stderr), (0, b""))
 

@@ -7,7 +7,7 @@ import unittest
 from collections.abc import Sequence
 
 from corpus import EVENT, INSTANCE, CorpusTest, document, needed
-from tml.statuses import RELATIONS
+from tml.statuses import MANY_BYTES, RELATIONS
 
 TIME = '<TIMEX3 tid="t1" type="DATE"/>'
 
@@ -353,7 +353,8 @@ class Further(CorpusTest):
 
 class Hostile(CorpusTest):
     def test_documents_that_repeat_one_thing(self) -> None:
-        size = 512 * 1024
+        # Of a document with more bytes than so many, less is kept.
+        size = MANY_BYTES + 1024
         parts = [
             b"\xe9",
             "é".encode() + b"\xe9",

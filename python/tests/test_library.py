@@ -7,7 +7,6 @@ import re
 import shutil
 import struct
 import subprocess
-import sys
 import tempfile
 import unittest
 from collections.abc import Mapping, Sequence
@@ -16,6 +15,7 @@ from unittest import mock
 
 from corpus import TESTS, TML, TOOLS, TOP, match_in, text_at
 from differential.cases import Case
+from processes import BARE
 from refused_memory import runs
 
 ARCHIVE = os.path.abspath(os.environ.get("TML_ARCHIVE") or os.path.join(TOP, "crates", "tml_c", "out", "libtml_c.a"))
@@ -123,7 +123,7 @@ class Library(unittest.TestCase):
         changes = text_at("CHANGELOG.md")
         (copy / "CHANGELOG.md").write_text(changes.replace(", not yet released", ", 2026-11-29"), encoding="utf-8")
         words = ("--library", ARCHIVE, "--output", cls.folder, "--maintainer", "A Name <a@example.org>")
-        return ran(sys.executable, copy / "tools/package", *words, env={**os.environ, "SOURCE_DATE_EPOCH": "1795824000"}).splitlines()
+        return ran(*BARE, copy / "tools/package", *words, env={**os.environ, "SOURCE_DATE_EPOCH": "1795824000"}).splitlines()
 
     @classmethod
     def built(cls, name: str, source: str | Path, *options: str) -> Path:

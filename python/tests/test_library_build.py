@@ -4,12 +4,12 @@ import os
 import shlex
 import shutil
 import subprocess
-import sys
 import tempfile
 import unittest
 from pathlib import Path
 
 from corpus import TOOLS, TOP
+from processes import BARE
 
 BUILD = os.path.join(TOOLS, "library", "build")
 ARCHIVE = os.path.abspath(os.environ.get("TML_ARCHIVE") or os.path.join(TOP, "crates", "tml_c", "out", "libtml_c.a"))
@@ -18,11 +18,11 @@ MISSING = [name for name in ("cc", "ld", "objcopy", "ar", "rt") if shutil.which(
 
 class Needed(unittest.TestCase):
     def test_what_is_missing(self) -> None:
-        done = subprocess.run([sys.executable, BUILD], env={"PATH": ""}, capture_output=True, text=True, check=False, timeout=60)
+        done = subprocess.run([*BARE, BUILD], env={"PATH": ""}, capture_output=True, text=True, check=False, timeout=60)
         self.assertEqual((done.returncode, done.stdout, done.stderr), (1, "", "build: not installed: rt, cc, ld, objcopy, ar\n"))
 
     def test_help_has_an_example(self) -> None:
-        done = subprocess.run([sys.executable, BUILD, "--help"], capture_output=True, text=True, check=True, timeout=60)
+        done = subprocess.run([*BARE, BUILD, "--help"], capture_output=True, text=True, check=True, timeout=60)
         self.assertIn("Example", done.stdout)
 
 
@@ -30,6 +30,13 @@ class Needed(unittest.TestCase):
 @unittest.skipIf(MISSING, f"not installed: {', '.join(MISSING)}")
 class Build(unittest.TestCase):
     """A copy of the tool, over three crates that `rt ci` seems to have proved, with a kit whose prover hands over the archive."""
+
+    c_of_kit: str
+
+    @classmethod
+    def setUpClass(cls) -> None:
+        said = subprocess.run(["rt", "doc"], capture_output=True, text=True, check=True, timeout=60).stdout.strip()
+        cls.c_of_kit = os.path.join(os.path.dirname(os.path.realpath(said)), "c")
 
     def setUp(self) -> None:
         held = tempfile.TemporaryDirectory(prefix="library-build-")
@@ -44,9 +51,8 @@ class Build(unittest.TestCase):
         for name in ("low", "high"):
             (self.top / "crates" / name / f"out/rlib/{name}.rlib").mkdir(parents=True)
         self.out, self.kit = self.top / "crates/tml_c/out", self.top / "kit"
-        said = subprocess.run(["rt", "doc"], capture_output=True, text=True, check=True, timeout=60).stdout.strip()
         (self.kit / "bin").mkdir(parents=True)
-        (self.kit / "c").symlink_to(os.path.join(os.path.dirname(os.path.realpath(said)), "c"))
+        (self.kit / "c").symlink_to(self.c_of_kit)
         self.program("rt", f"echo {self.kit}/START-HERE.md")
 
     def program(self, name: str, text: str) -> None:
@@ -58,7 +64,7 @@ class Build(unittest.TestCase):
         """The status, what was printed, what was said beside it, and the files that are left, where the prover is this script."""
         self.program("rattle", prover)
         variables = {**os.environ, "PATH": f"{self.kit}/bin:{os.environ['PATH']}", "PYTHONDONTWRITEBYTECODE": "1"}
-        words = [sys.executable, str(self.top / "tools/library/build")]
+        words = [*BARE, str(self.top / "tools/library/build")]
         done = subprocess.run(words, env=variables, capture_output=True, text=True, check=False, timeout=300)
         left = {one.name for one in self.out.iterdir()} if self.out.exists() else set()
         return done.returncode, done.stdout.splitlines(), done.stderr.splitlines(), left

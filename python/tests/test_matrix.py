@@ -3,11 +3,11 @@
 import csv
 import os
 import subprocess
-import sys
 import unittest
 import xml.etree.ElementTree as ElementTree
 
 from corpus import COMPANION, TML, CorpusTest, document, needed, needs_matrix, text_at
+from processes import BARE
 from test_timeline import XHTML, Parsed, event, link
 from tml.statuses import BASE_RELATIONS
 
@@ -152,7 +152,7 @@ class Others(MatrixTest):
 
     def test_an_answer_that_cannot_be_kept(self) -> None:
         self.write("d.xml", document("".join(event(number) for number in range(40))))
-        command = ["sh", "-c", 'ulimit -f 1; exec "$0" "$@"', sys.executable, COMPANION, "matrix", "--tml", os.path.abspath(TML), "d.xml"]
+        command = ["sh", "-c", 'ulimit -f 1; exec "$0" "$@"', *BARE, COMPANION, "matrix", "--tml", os.path.abspath(TML), "d.xml"]
         done = subprocess.run(command, cwd=self.folder, capture_output=True, text=True, check=False)
         said = "d.xml: not judged: the answer of tml to `matrix` cannot be kept: file too large\n"
         self.assertEqual((done.returncode, done.stdout, done.stderr), (2, said, ""))

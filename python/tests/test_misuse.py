@@ -17,6 +17,7 @@ from unittest import mock
 
 import tml
 from corpus import SOURCES, TML, TOOLS, TOP
+from processes import BARE
 from tml import asking, finding
 from tml.explaining.faults import SENTENCES
 
@@ -131,7 +132,7 @@ class Misuse(unittest.TestCase):
             self.assertNotEqual(changed, whole)
             found = tml.expect(tml.check(changed, by=self.by), tml.Fault)
             done = subprocess.run(
-                [sys.executable, os.path.join(TOOLS, "tml-corpus"), "check", "--tml", TML, "-"],
+                [*BARE, os.path.join(TOOLS, "tml-corpus"), "check", "--tml", TML, "-"],
                 input=changed,
                 capture_output=True,
                 check=False,

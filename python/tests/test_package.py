@@ -6,12 +6,12 @@ import os
 import re
 import shutil
 import subprocess
-import sys
 import tempfile
 import unittest
 from pathlib import Path
 
 from corpus import TML, TOOLS, TOP, match_in, text_at
+from processes import BARE
 
 TML_VERIFY = os.path.abspath(os.environ.get("TML_VERIFY") or os.path.join(TOP, "crates", "tml_verify", "out", "tml_verify"))
 DOCS = "usr/share/doc/tml-timeml"
@@ -71,7 +71,7 @@ class Package(unittest.TestCase):
     def package(*words: str, umask: int = -1) -> subprocess.CompletedProcess[str]:
         """Runs `tools/package`, with a time and a maintainer, so that git is not asked."""
         return subprocess.run(
-            [sys.executable, os.path.join(TOOLS, "package"), "--maintainer", "A Name <a@example.org>", "--checker", TML_VERIFY, *words],
+            [*BARE, os.path.join(TOOLS, "package"), "--maintainer", "A Name <a@example.org>", "--checker", TML_VERIFY, *words],
             env={**os.environ, "SOURCE_DATE_EPOCH": "1795824000", "PYTHONDONTWRITEBYTECODE": "1"},
             capture_output=True,
             text=True,
@@ -84,7 +84,7 @@ class Package(unittest.TestCase):
         """The status and the text of an unpacked program; PATH has nothing but the programs of the package."""
         program, *rest = words
         path = os.path.join(self.root, "usr/bin")
-        start = [] if program in ("tml", "tml-verify") else [sys.executable]
+        start = [] if program in ("tml", "tml-verify") else [*BARE]
         done = subprocess.run(
             [*start, os.path.join(path, program), *rest],
             input=given,
@@ -166,7 +166,7 @@ class Package(unittest.TestCase):
                 self.assertEqual((status, out.split()[:2]), (0, ["usage:", name]))
 
     def test_python_finds_the_package_tml(self) -> None:
-        words = [sys.executable, "-c", "import tml.library, tml.process; print(tml.__file__)"]
+        words = [*BARE, "-c", "import tml.library, tml.process; print(tml.__file__)"]
         variables = {"PYTHONPATH": os.path.join(self.root, IMPORTED), "PYTHONDONTWRITEBYTECODE": "1"}
         done = subprocess.run(words, cwd=self.folder, env=variables, capture_output=True, text=True, check=False, timeout=120)
         self.assertEqual((done.stdout, done.stderr), (os.path.join(self.root, IMPORTED, "tml/__init__.py\n"), ""))

@@ -6,7 +6,6 @@ import os
 import random
 import re
 import subprocess
-import sys
 import tempfile
 import unittest
 from pathlib import Path
@@ -14,6 +13,7 @@ from typing import Any
 from unittest import mock
 
 from corpus import SOURCES, TOOLS, TOP, match_in, needed, text_at
+from processes import BARE
 from tml import places, running
 from tml import statuses as tml_statuses
 from tml.places import Places, caret_lines
@@ -396,7 +396,7 @@ class Project(unittest.TestCase):
             with self.subTest(name), open(script, encoding="utf-8") as file:
                 self.assertIn(f"\nfrom {module} import {function}\n", file.read())
                 self.assertEqual(function, os.path.basename(script).replace("-", "_"))
-                said = subprocess.run([sys.executable, script, "--version"], capture_output=True, text=True, check=True).stdout
+                said = subprocess.run([*BARE, script, "--version"], capture_output=True, text=True, check=True).stdout
                 self.assertEqual(said, f"{os.path.basename(script)} {project['version']}\n")
 
     def test_nothing_is_locked_where_it_is_imported(self) -> None:
@@ -406,7 +406,7 @@ class Project(unittest.TestCase):
             "import _multiprocessing\nclass SemLock:\n    SEM_VALUE_MAX = 1\n    def __init__(self, *words): raise AssertionError\n"
             f"_multiprocessing.SemLock = SemLock\nimport multiprocessing.synchronize\nimport {modules}\n"
         )
-        done = subprocess.run([sys.executable, "-c", script], cwd=SOURCES, capture_output=True, text=True, check=False, timeout=60)
+        done = subprocess.run([*BARE, "-c", script], cwd=SOURCES, capture_output=True, text=True, check=False, timeout=60)
         self.assertEqual((done.returncode, done.stderr), (0, ""))
 
 

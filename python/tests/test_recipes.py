@@ -8,15 +8,17 @@ to one shell, whose folder has a copy of `samples`, `tools` and `python` and not
 
 import os
 import re
+import shlex
 import shutil
 import subprocess
-import sys
 import tempfile
 import unittest
 from collections.abc import Sequence
 from dataclasses import dataclass, field
+from pathlib import Path
 
 from corpus import TML, TOP, text_at
+from processes import BARE
 
 PAGES = ("README.md", *(f"docs/{name}.md" for name in ("AGREEMENT", "CLASHES", "CORPORA", "FOLDER", "QUESTIONS", "TOUR")))
 NEEDED = ("perl", "iconv", "make", "xmllint", "sha256sum", "diff", "git")
@@ -93,7 +95,9 @@ class RecipeTest(unittest.TestCase):
         programs = os.path.join(cls.top, "bin")
         os.mkdir(programs)
         os.symlink(os.path.abspath(TML), os.path.join(programs, "tml"))
-        os.symlink(sys.executable, os.path.join(programs, "python3"))
+        python = Path(programs, "python3")
+        python.write_text(f'#!/bin/sh\nexec {shlex.join(BARE)} "$@"\n', encoding="utf-8")
+        python.chmod(0o755)
         # The copies have the same path in each section, so that their modules are compiled once.
         others = {name: value for name, value in os.environ.items() if name != "PYTHONDONTWRITEBYTECODE"}
         bytecode = others.get("PYTHONPYCACHEPREFIX", os.path.join(cls.top, "bytecode"))

@@ -3,13 +3,13 @@
 import os
 import re
 import subprocess
-import sys
 import unittest
 import xml.etree.ElementTree as ElementTree
 from collections.abc import Mapping
 
 from browser import Browser, needs_browser
 from corpus import TML, TOP, CorpusTest, document, needed, needs_matrix, text_at
+from processes import BARE
 from test_timeline import Parsed, event, link
 
 XHTML = "{http://www.w3.org/1999/xhtml}"
@@ -104,7 +104,7 @@ class Pages(ReportTest):
         self.assertEqual(self.rows(), rows)
 
     def test_verdicts_are_those_of_check(self) -> None:
-        subprocess.run([sys.executable, os.path.join(TOP, "python", "tests", "ordinary.py"), self.path("corpus"), "40"], check=True)
+        subprocess.run([*BARE, os.path.join(TOP, "python", "tests", "ordinary.py"), self.path("corpus"), "40"], check=True)
         lines = self.made({}, status=1)
         _, checked, _ = self.run_it("check", "--clashes", "--lint", "corpus")
         self.assertEqual(lines[:-1], checked[-len(lines) + 1 :])

@@ -2,11 +2,11 @@
 
 import os
 import subprocess
-import sys
 import unittest
 
 from corpus import EVENT, INSTANCE, TML, TOOLS, CorpusTest, document, needs_score
 from forked import run_forked
+from processes import BARE
 from tml.statuses import RELATIONS
 
 A, B = '<TIMEX3 tid="a" type="SET"/>', '<TIMEX3 tid="b" type="SET"/>'
@@ -129,7 +129,7 @@ class RedundantLinks(ScriptTest):
 class Edits(ScriptTest):
     def test_values_that_are_not_utf8(self) -> None:
         self.write("d.xml", document("<P pos='x'/>"))
-        command = [os.fsencode(one) for one in (sys.executable, os.path.join(TOOLS, "tml-edit"), "--tml", TML, "--value", "P", "pos", "x")]
+        command = [os.fsencode(one) for one in (*BARE, os.path.join(TOOLS, "tml-edit"), "--tml", TML, "--value", "P", "pos", "x")]
         done = subprocess.run([*command, b"\xff", b"d.xml"], cwd=self.folder, capture_output=True, text=True, check=False, timeout=60)
         self.assertEqual((done.returncode, done.stdout), (2, ""))
         self.assertTrue(done.stderr.endswith("\ntml-edit: error: argument --value: \\xff is not UTF-8\n"), done.stderr)

@@ -14,6 +14,7 @@ import unittest
 from unittest import mock
 
 from corpus import COMPANION, EVENT, INSTANCE, TML, TOP, CorpusTest, document
+from processes import BARE
 from serving import ServeTest
 
 from tml_corpus.serve.server import Server
@@ -287,7 +288,7 @@ class Protocol(ServeTest):
         for sent in (b"Content-Length: x\r\n\r\n", b"Content-Length: 99999999999\r\n\r\n", b"x" * 9000, b"Content-Length: 9\r\n\r\n{"):
             with self.subTest(sent[:40]):
                 done = subprocess.run(
-                    [sys.executable, COMPANION, "serve", "--tml", TML], input=sent, capture_output=True, check=False, timeout=60
+                    [*BARE, COMPANION, "serve", "--tml", TML], input=sent, capture_output=True, check=False, timeout=60
                 )
                 self.assertEqual((done.returncode, done.stdout, done.stderr.count(b"\n")), (2, b"", 1))
 
