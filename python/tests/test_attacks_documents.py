@@ -115,10 +115,20 @@ DOCUMENTS: dict[str, tuple[str, int, Callable[[int], bytes]]] = {
 }
 """Documents made to cost much: a command, its status, and the document with so many bytes. Of each command the first one is tried whole."""
 
-PART = 2
-"""How many times as many bytes as a smaller document the whole one has."""
+PARTS = (8, 4)
+"""How many times as many bytes as two smaller documents the whole one has; the second has twice as many as the first."""
 SECONDS, MEBIBYTES = 30, 400
 """What a command may take. The aim is 5 seconds of a machine with nothing else to do; this is processor time, with room for a busy one."""
+
+
+def is_shown_by(less: Ended, more: Ended) -> bool:
+    """Whether runs over the two smaller documents show that one over the whole takes no more than it may.
+
+    With twice the bytes the time has grown by a factor, and to the whole they are doubled twice more. Where time goes in part with the
+    bytes and in part with their square, it comes to up to half as much again. Memory goes with the bytes.
+    """
+    growth = max(2.0, more.seconds / less.seconds)
+    return more.seconds * growth**2 < SECONDS * 2 / 3 and more.mebibytes < MEBIBYTES / PARTS[1]
 
 
 class Documents(AttackTest):
@@ -127,7 +137,7 @@ class Documents(AttackTest):
         for name, (command, status, make) in DOCUMENTS.items():
             with self.subTest(name):
                 asked, _, _ = command.partition(" --")
-                if asked in tried and self.is_shown_by_a_part(self.judged(command, status, make(DOCUMENT_LIMIT // PART))):
+                if asked in tried and is_shown_by(*(self.judged(command, status, make(DOCUMENT_LIMIT // part)) for part in PARTS)):
                     continue
                 tried.add(asked)
                 self.within(self.judged(command, status, make(DOCUMENT_LIMIT)))
@@ -143,13 +153,6 @@ class Documents(AttackTest):
         self.assertEqual(ended.status, status, ended.out[:200] + ended.error)
         self.assertLess(max(map(len, ended.out.splitlines())), 2000)
         return ended
-
-    def is_shown_by_a_part(self, ended: Ended) -> bool:
-        """Whether a run over a smaller document shows that one over the whole takes no more than it may.
-
-        Work may grow with the square of the bytes, and memory with the bytes: what grows faster shows in the whole ones.
-        """
-        return ended.seconds < SECONDS / PART**2 and ended.mebibytes < MEBIBYTES / PART
 
     def within(self, ended: Ended) -> None:
         """A run has to take no more than it may."""
