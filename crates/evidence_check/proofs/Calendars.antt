@@ -35,10 +35,6 @@ pub few_events : (kind : Kind) (p : ℕ) (number : Option ℤ) → length (event
 few_events kind p (Some x) = omega arith
 few_events kind p None = omega arith
 
--- of no points there is none
-pub no_events : (net : PlainNet) → AreEvents net 0 []
-no_events net = record { right = All-nil (IsEvent net); whole = λ kind p x below is. absurd (omega (arith, below)) }
-
 -- those of one point more
 pub more_events : (net : PlainNet) (p : ℕ) (es : List Event) → p < points net → AreEvents net p es
     → AreEvents net (p + 1) (((es ++ events_of Upper p (upper net p)) ++ events_of Lower p (lower net p)) ++ events_of Past p (upper net p))

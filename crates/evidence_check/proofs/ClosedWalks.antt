@@ -16,7 +16,7 @@ use Rattle.evidence_check.specs.declared.refusal.Reason.{Reason}
 use Rattle.evidence_check.specs.declared.refusal.Reason.TheVariants.{Number, Size, Order, Link, Calendar, Step, End, Weak, Cited, Holds}
 use Rattle.evidence_check.specs.declared.walks.Reached.{Reached}
 use Rattle.evidence_check.specs.Following.{LeadsTo}
-use Rattle.evidence_check.specs.Refusals.{GoOn, IsNoRound}
+use Rattle.evidence_check.specs.Refusals.{GoOn, IsNoClosedWalk}
 use Rattle.evidence_check.proofs.Proving.{goes_less}
 
 module _ (net : PlainNet) where
@@ -35,9 +35,9 @@ module _ (net : PlainNet) where
       same ∙ one_end net EveryLink (step ∷ steps) x x z h (subst (λ (w : ℕ). IsJoined net EveryLink (step ∷ steps) w z) same k)
 
   -- steps that lead back, one of them strict, are a closed walk
-  pub leads_round : (cites : List ℕ) (steps : List StepOf) (x : ℕ) (reached : Reached) → LeadsTo net x steps reached → reached.at ≡ x → not reached.strict ≡ false
+  pub leads_closed : (cites : List ℕ) (steps : List StepOf) (x : ℕ) (reached : Reached) → LeadsTo net x steps reached → reached.at ≡ x → not reached.strict ≡ false
       → IsFirst (length net.links) (Agrees cites steps) None → IsClosedOver net cites steps
-  leads_round cites steps x reached leads back strict agree =
+  leads_closed cites steps x reached leads back strict agree =
       ((x, (subst (λ (y : ℕ). IsJoined net EveryLink steps x y) back leads.0, λ asked. sym leads.1 ∙ is_set reached.strict strict)), agree)
     where
       is_set : (b : Bool) → not b ≡ false → b ≡ true
@@ -49,17 +49,17 @@ module _ (net : PlainNet) where
   on_whole x y k all joined = let part = joined_take net EveryLink all x y k joined in (x, (part.0, part.1))
 
   -- steps that are a closed walk over the cited links are refused for no reason
-  pub round_not_both : (cites : List ℕ) (all : List StepOf) (reason : Reason) → IsClosedOver net cites all → IsNoRound net cites all reason → ⊥
-  round_not_both cites all (Step k) round h = h.2 (on_whole round.0.0 round.0.0 (k + 1) all round.0.1.0)
-  round_not_both cites all End round h = h.3 (ends_alike all round.0.0 h.0 h.1 round.0.1.0 h.2)
-  round_not_both cites all Weak round h = let e = round.0.1.1 refl in let f = h.2 in cc
-  round_not_both cites all (Cited link) round h = h.1.1 (round.1 link h.1.0)
-  round_not_both cites all (Number n) round h = h
-  round_not_both cites all (Size n) round h = h
-  round_not_both cites all (Order n) round h = h
-  round_not_both cites all (Link n) round h = h
-  round_not_both cites all (Calendar p q) round h = h
-  round_not_both cites all Holds round h = h
+  pub closed_not_both : (cites : List ℕ) (all : List StepOf) (reason : Reason) → IsClosedOver net cites all → IsNoClosedWalk net cites all reason → ⊥
+  closed_not_both cites all (Step k) round h = h.2 (on_whole round.0.0 round.0.0 (k + 1) all round.0.1.0)
+  closed_not_both cites all End round h = h.3 (ends_alike all round.0.0 h.0 h.1 round.0.1.0 h.2)
+  closed_not_both cites all Weak round h = let e = round.0.1.1 refl in let f = h.2 in cc
+  closed_not_both cites all (Cited link) round h = h.1.1 (round.1 link h.1.0)
+  closed_not_both cites all (Number n) round h = h
+  closed_not_both cites all (Size n) round h = h
+  closed_not_both cites all (Order n) round h = h
+  closed_not_both cites all (Link n) round h = h
+  closed_not_both cites all (Calendar p q) round h = h
+  closed_not_both cites all Holds round h = h
 
   -- the first step that does not go on is one
   one_stop : (j k : ℕ) (all : List StepOf) → GoOn net (take k all) → (GoOn net (take (j + 1) all) → ⊥) → k ≤ j
@@ -69,38 +69,38 @@ module _ (net : PlainNet) where
   ]
 
   -- steps are no closed walk for one reason
-  pub one_round : (cites : List ℕ) (all : List StepOf) (r s : Reason) → IsNoRound net cites all r → IsNoRound net cites all s → r ≡ s
-  one_round cites all (Step j) (Step k) h g =
+  pub one_closed : (cites : List ℕ) (all : List StepOf) (r s : Reason) → IsNoClosedWalk net cites all r → IsNoClosedWalk net cites all s → r ≡ s
+  one_closed cites all (Step j) (Step k) h g =
       let le = one_stop j k all g.1 h.2 in
       let ge = one_stop k j all h.1 g.2 in
       ap (λ (n : ℕ). Step n) (omega arith)
-  one_round cites all (Step j) End h g = absurd (h.2 (on_whole g.0 g.1 (j + 1) all g.2))
-  one_round cites all (Step j) Weak h g = absurd (h.2 (on_whole g.0 g.0 (j + 1) all g.1))
-  one_round cites all (Step j) (Cited link) h g = absurd (h.2 (on_whole g.0.0 g.0.0 (j + 1) all g.0.1.0))
-  one_round cites all End (Step k) h g = absurd (g.2 (on_whole h.0 h.1 (k + 1) all h.2))
-  one_round cites all Weak (Step k) h g = absurd (g.2 (on_whole h.0 h.0 (k + 1) all h.1))
-  one_round cites all (Cited link) (Step k) h g = absurd (g.2 (on_whole h.0.0 h.0.0 (k + 1) all h.0.1.0))
-  one_round cites all End End h g = refl
-  one_round cites all Weak Weak h g = refl
-  one_round cites all End Weak h g = absurd (h.3 (ends_alike all g.0 h.0 h.1 g.1 h.2))
-  one_round cites all Weak End h g = absurd (g.3 (ends_alike all h.0 g.0 g.1 h.1 g.2))
-  one_round cites all End (Cited link) h g = absurd (h.3 (ends_alike all g.0.0 h.0 h.1 g.0.1.0 h.2))
-  one_round cites all (Cited link) End h g = absurd (g.3 (ends_alike all h.0.0 g.0 g.1 h.0.1.0 g.2))
-  one_round cites all Weak (Cited link) h g = absurd (let e = g.0.1.1 refl in let f = h.2 in cc)
-  one_round cites all (Cited link) Weak h g = absurd (let e = h.0.1.1 refl in let f = g.2 in cc)
-  one_round cites all (Cited m) (Cited n) h g = ap (λ (k : ℕ). Cited k) (same (one_first (length net.links) (Agrees cites all) (Some m) (Some n) h.1 g.1))
+  one_closed cites all (Step j) End h g = absurd (h.2 (on_whole g.0 g.1 (j + 1) all g.2))
+  one_closed cites all (Step j) Weak h g = absurd (h.2 (on_whole g.0 g.0 (j + 1) all g.1))
+  one_closed cites all (Step j) (Cited link) h g = absurd (h.2 (on_whole g.0.0 g.0.0 (j + 1) all g.0.1.0))
+  one_closed cites all End (Step k) h g = absurd (g.2 (on_whole h.0 h.1 (k + 1) all h.2))
+  one_closed cites all Weak (Step k) h g = absurd (g.2 (on_whole h.0 h.0 (k + 1) all h.1))
+  one_closed cites all (Cited link) (Step k) h g = absurd (g.2 (on_whole h.0.0 h.0.0 (k + 1) all h.0.1.0))
+  one_closed cites all End End h g = refl
+  one_closed cites all Weak Weak h g = refl
+  one_closed cites all End Weak h g = absurd (h.3 (ends_alike all g.0 h.0 h.1 g.1 h.2))
+  one_closed cites all Weak End h g = absurd (g.3 (ends_alike all h.0 g.0 g.1 h.1 g.2))
+  one_closed cites all End (Cited link) h g = absurd (h.3 (ends_alike all g.0.0 h.0 h.1 g.0.1.0 h.2))
+  one_closed cites all (Cited link) End h g = absurd (g.3 (ends_alike all h.0.0 g.0 g.1 h.0.1.0 g.2))
+  one_closed cites all Weak (Cited link) h g = absurd (let e = g.0.1.1 refl in let f = h.2 in cc)
+  one_closed cites all (Cited link) Weak h g = absurd (let e = h.0.1.1 refl in let f = g.2 in cc)
+  one_closed cites all (Cited m) (Cited n) h g = ap (λ (k : ℕ). Cited k) (same (one_first (length net.links) (Agrees cites all) (Some m) (Some n) h.1 g.1))
     where
       same : Some m ≡ Some n → m ≡ n
       same e = cc
-  one_round cites all (Number n) s h g = absurd h
-  one_round cites all (Size n) s h g = absurd h
-  one_round cites all (Order n) s h g = absurd h
-  one_round cites all (Link n) s h g = absurd h
-  one_round cites all (Calendar p q) s h g = absurd h
-  one_round cites all Holds s h g = absurd h
-  one_round cites all r (Number n) h g = absurd g
-  one_round cites all r (Size n) h g = absurd g
-  one_round cites all r (Order n) h g = absurd g
-  one_round cites all r (Link n) h g = absurd g
-  one_round cites all r (Calendar p q) h g = absurd g
-  one_round cites all r Holds h g = absurd g
+  one_closed cites all (Number n) s h g = absurd h
+  one_closed cites all (Size n) s h g = absurd h
+  one_closed cites all (Order n) s h g = absurd h
+  one_closed cites all (Link n) s h g = absurd h
+  one_closed cites all (Calendar p q) s h g = absurd h
+  one_closed cites all Holds s h g = absurd h
+  one_closed cites all r (Number n) h g = absurd g
+  one_closed cites all r (Size n) h g = absurd g
+  one_closed cites all r (Order n) h g = absurd g
+  one_closed cites all r (Link n) h g = absurd g
+  one_closed cites all r (Calendar p q) h g = absurd g
+  one_closed cites all r Holds h g = absurd g

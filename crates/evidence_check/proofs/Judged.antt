@@ -27,7 +27,7 @@ use Rattle.evidence_check.proofs.Proving.{not_both}
 use Rattle.evidence_check.proofs.RanksJudged.{fit_or_misfit}
 use Rattle.evidence_check.proofs.Reasons.{OrReason, first_bad}
 use Rattle.evidence_check.proofs.Verdicts.{no_misfit}
-use Rattle.evidence_check.proofs.WalksJudged.{proof_or_none, round_or_none}
+use Rattle.evidence_check.proofs.WalksJudged.{proof_or_none, closed_or_none}
 
 abbrev refusal : ℕ → Reason → Refused
 refusal part reason = record { part = part; reason = reason }
@@ -91,7 +91,7 @@ module _ (net : PlainNet) where
     | inr first ↦ inr (refusal 0 (Number (cite_at cites first.0)), inl (refl, first.0, first.1, refl))
     | inl each ↦
         let links = All-from_get_or (λ (k : ℕ). k < length net.links) cites 0 each in
-        elim (round_or_none net cites walk) [
+        elim (closed_or_none net cites walk) [
           | inr none ↦ inr (refusal 1 none.0, inr (inl (links, (refl, none.1))))
           | inl round ↦ elim (judged_spares cites spares well.3) [
             | inr refused ↦ inr (refused.0, inr (inr (links, round, refused.1)))

@@ -17,11 +17,11 @@ use Rattle.evidence_format.specs.Evidence.{PlainEvidence, timeline, entails, cou
 use Rattle.evidence_check.specs.declared.refusal.Reason.{Reason}
 use Rattle.evidence_check.specs.declared.refusal.Reason.TheVariants.{Number, Size, Order, Link, Calendar, Step, End, Weak, Cited, Holds}
 use Rattle.evidence_check.specs.declared.refusal.Refused.{Refused}
-use Rattle.evidence_check.specs.Refusals.{FirstBrokenLink, FirstBrokenPair, FirstUnordered, HasSize, IsBadNumber, IsCiteRefused, IsMisfit, IsNoProof, IsNumberRefused, IsOfLink, IsRefused, IsRelationRefused, IsRoundRefused, IsSpareAt, IsSpareRefused, IsTimelineRefused, IsWalkRefused, OneVerdict, Proves, atom_at, cite_at, ranks_at, walk_at}
+use Rattle.evidence_check.specs.Refusals.{FirstBrokenLink, FirstBrokenPair, FirstUnordered, HasSize, IsBadNumber, IsCiteRefused, IsMisfit, IsNoProof, IsNumberRefused, IsOfLink, IsRefused, IsRelationRefused, IsClosedWalkRefused, IsSpareAt, IsSpareRefused, IsTimelineRefused, IsWalkRefused, OneVerdict, Proves, atom_at, cite_at, ranks_at, walk_at}
 use Rattle.evidence_check.specs.Supported.{AllFitOthers, AreLinks, FitsOthers, IsFalse, IsProof, IsSupported, ProveAll}
 use Rattle.evidence_check.proofs.Checks.{IsCheck, by_check, three_checks, two_checks}
 use Rattle.evidence_check.proofs.Proving.{one_reason}
-use Rattle.evidence_check.proofs.ClosedWalks.{one_round, round_not_both}
+use Rattle.evidence_check.proofs.ClosedWalks.{one_closed, closed_not_both}
 
 -- numbers that are found alike are one
 some_is : (m n : ℕ) → Some m ≡ Some n → m ≡ n
@@ -145,10 +145,10 @@ module _ (net : PlainNet) where
         one_refused r s (h.0 ∙ sym k.0) (h.3 ∙ ap (λ (i : ℕ). Number (cite_at cites i)) same ∙ sym k.3);
   }
 
-  round_check : (cites : List ℕ) (walk : List StepOf) → IsCheck (IsClosedOver net cites walk) (IsRoundRefused net cites walk)
-  round_check cites walk = record {
-    not_both = λ r round h. round_not_both net cites walk r.reason round h.1;
-    once = λ r s h k. one_refused r s (h.0 ∙ sym k.0) (one_round net cites walk r.reason s.reason h.1 k.1);
+  closed_check : (cites : List ℕ) (walk : List StepOf) → IsCheck (IsClosedOver net cites walk) (IsClosedWalkRefused net cites walk)
+  closed_check cites walk = record {
+    not_both = λ r round h. closed_not_both net cites walk r.reason round h.1;
+    once = λ r s h k. one_refused r s (h.0 ∙ sym k.0) (one_closed net cites walk r.reason s.reason h.1 k.1);
   }
 
   -- the first timeline that does not fit is one, and so is its reason
@@ -170,7 +170,7 @@ module _ (net : PlainNet) where
   check (timeline ranks) = timeline_check (ranks_of ranks)
   check (entails a rel b walks) = two_checks (numbers_check a b) (walks_check (atoms_of a rel b) walks)
   check (counter a rel b ranks) = three_checks (numbers_check a b) (timeline_check (ranks_of ranks)) (relation_check (ranks_of ranks) a rel b)
-  check (clash cites walk spares) = three_checks (cites_check cites) (round_check cites walk) (spares_check cites spares)
+  check (clash cites walk spares) = three_checks (cites_check cites) (closed_check cites walk) (spares_check cites spares)
 
 -- evidence is not both supported and refused, and is refused for one reason at most
 pub one_verdict : OneVerdict

@@ -14,7 +14,7 @@ use Rattle.net_core.specs.declared.step.Step.{Step as StepOf}
 use Rattle.net_core.proofs.FirstLaws.{first_or_none}
 use Rattle.net_core.proofs.WalkLaws.{uses_own}
 use Rattle.evidence_check.specs.declared.refusal.Reason.TheVariants.{Step, End, Weak, Cited}
-use Rattle.evidence_check.specs.Refusals.{GoFrom, GoOn, IsNoProof, IsNoRound}
+use Rattle.evidence_check.specs.Refusals.{GoFrom, GoOn, IsNoProof, IsNoClosedWalk}
 use Rattle.evidence_check.specs.Supported.{IsProof}
 use Rattle.evidence_check.proofs.Deciding.{agrees}
 use Rattle.evidence_check.proofs.ClosedWalks.{start_is}
@@ -88,8 +88,8 @@ module _ (net : PlainNet) where
       by_strict joined asked true e f = inl (joined, λ strict. f)
       by_strict joined false some e f = inl (joined, λ strict. absurd cc)
 
-  pub round_or_none : (cites : List ℕ) (all : List StepOf) → OrReason (IsClosedOver net cites all) (IsNoRound net cites all)
-  round_or_none cites all = elim (all_or_stop (GoOn net) go_on (0, (0, refl)) all) [
+  pub closed_or_none : (cites : List ℕ) (all : List StepOf) → OrReason (IsClosedOver net cites all) (IsNoClosedWalk net cites all)
+  closed_or_none cites all = elim (all_or_stop (GoOn net) go_on (0, (0, refl)) all) [
     | inr stop ↦ inr (Step stop.0, stop.1)
     | inl on ↦ elim (ℕ_discrete on.0 on.1.0) [
       | no other ↦ inr (End, (on.0, on.1.0, on.1.1, other))
@@ -97,7 +97,7 @@ module _ (net : PlainNet) where
     ]
   ]
     where
-      by_strict : (x : ℕ) → IsJoined net EveryLink all x x → (some : Bool) → has_strict net all ≡ some → OrReason (IsClosedOver net cites all) (IsNoRound net cites all)
+      by_strict : (x : ℕ) → IsJoined net EveryLink all x x → (some : Bool) → has_strict net all ≡ some → OrReason (IsClosedOver net cites all) (IsNoClosedWalk net cites all)
       by_strict x joined false e = inr (Weak, (x, joined, e))
       by_strict x joined true e = elim (first_or_none (length net.links) (Agrees cites all) (agrees cites all)) [
         | inr first ↦ inr (Cited first.0, ((x, (joined, λ asked. e)), first.1))

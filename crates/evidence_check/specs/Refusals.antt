@@ -108,20 +108,20 @@ abbrev pub GoOn : PlainNet → List StepOf → Type 0
 GoOn net steps = (x : ℕ) × GoFrom net x steps
 
 -- The steps are no closed walk over exactly the cited links, for this reason and for none before it: step k is the first that does not go on; they do not end where they begin; none of them is strict; or a link is the first that is cited and not gone over, or gone over and not cited.
-abbrev pub IsNoRound : PlainNet → List ℕ → List StepOf → Reason → Type 0
-IsNoRound net cites steps (Step k) = (k < length steps) × GoOn net (take k steps) × (GoOn net (take (k + 1) steps) → ⊥)
-IsNoRound net cites steps End = (x : ℕ) × (y : ℕ) × IsJoined net EveryLink steps x y × (x ≢ y)
-IsNoRound net cites steps Weak = (x : ℕ) × IsJoined net EveryLink steps x x × (has_strict net steps ≡ false)
-IsNoRound net cites steps (Cited link) = IsClosedWalk net EveryLink steps × IsFirst (length net.links) (Agrees cites steps) (Some link)
-IsNoRound net cites steps other = ⊥
+abbrev pub IsNoClosedWalk : PlainNet → List ℕ → List StepOf → Reason → Type 0
+IsNoClosedWalk net cites steps (Step k) = (k < length steps) × GoOn net (take k steps) × (GoOn net (take (k + 1) steps) → ⊥)
+IsNoClosedWalk net cites steps End = (x : ℕ) × (y : ℕ) × IsJoined net EveryLink steps x y × (x ≢ y)
+IsNoClosedWalk net cites steps Weak = (x : ℕ) × IsJoined net EveryLink steps x x × (has_strict net steps ≡ false)
+IsNoClosedWalk net cites steps (Cited link) = IsClosedWalk net EveryLink steps × IsFirst (length net.links) (Agrees cites steps) (Some link)
+IsNoClosedWalk net cites steps other = ⊥
 
 -- a cite that is none of a link, which is part 0
 abbrev pub IsCiteRefused : PlainNet → List ℕ → Refused → Type 0
 IsCiteRefused net cites refused = (refused.part ≡ 0) × (i : ℕ) × IsFirst (length cites) (IsOfLink net cites) (Some i) × (refused.reason ≡ Number (cite_at cites i))
 
 -- the walk, which is part 1
-abbrev pub IsRoundRefused : PlainNet → List ℕ → List StepOf → Refused → Type 0
-IsRoundRefused net cites walk refused = (refused.part ≡ 1) × IsNoRound net cites walk refused.reason
+abbrev pub IsClosedWalkRefused : PlainNet → List ℕ → List StepOf → Refused → Type 0
+IsClosedWalkRefused net cites walk refused = (refused.part ≡ 1) × IsNoClosedWalk net cites walk refused.reason
 
 -- the first timeline that does not fit with the other cited links: timeline i is part i + 2
 abbrev pub IsSpareRefused : PlainNet → List ℕ → List (List (ℕ × ℕ)) → Refused → Type 0
@@ -141,7 +141,7 @@ IsRefused net (counter a r b ranks) refused =
     ⊎ (AreIntervals net a b × RanksFit net (ranks_of ranks) × IsRelationRefused (ranks_of ranks) a r b refused)
 IsRefused net (clash cites walk spares) refused =
     IsCiteRefused net cites refused
-    ⊎ (AreLinks net cites × IsRoundRefused net cites walk refused)
+    ⊎ (AreLinks net cites × IsClosedWalkRefused net cites walk refused)
     ⊎ (AreLinks net cites × IsClosedOver net cites walk × IsSpareRefused net cites spares refused)
 
 -- the law: evidence is not both supported and refused, and is refused for one reason at most

@@ -17,9 +17,9 @@ ghost use Rattle.net_core.specs.declared.step.Step.{Step as StepOf};
 ghost use Rattle.std.specs.List.{All};
 ghost use Rattle.std.specs.Prelude.{IfErr, IfOk, IsOk, List, OnOk, length, map, ℕ, ◌≡◌, ◌≤◌, ◌↔◌};
 
+use crate::closed_walks::check_closed;
 use crate::demands::Demands;
 use crate::refusal::{Claim, Reason, Refused};
-use crate::rounds::check_closed;
 use crate::spares::{Spares, spare_at};
 use crate::timeline::{Asked, fit};
 use crate::walks::prove_all;

@@ -1,7 +1,7 @@
 use Rattle.std.proofs.Common.{◌↔◌, ◌⊎◌, ℕ, ◌<◌, length, take}
 use Rattle.std.specs.List.{Contains}
 use Rattle.net_core.specs.Walks.{Kept}
-use Rattle.evidence_check.proofs.rounds.mark_cites.Given as goal
+use Rattle.evidence_check.proofs.closed_walks.mark_cites.Given as goal
 
 -- the cites so far are marked, and the links that were
 abbrev pub invariant-loop-cite : goal.invariant-loop-cite

@@ -1,6 +1,6 @@
 //! Whether a walk is closed and goes over exactly the cited links.
 ghost use Rattle.evidence_check.specs.Asked.{AreRisingLinks};
-ghost use Rattle.evidence_check.specs.Refusals.{IsNoRound};
+ghost use Rattle.evidence_check.specs.Refusals.{IsNoClosedWalk};
 ghost use Rattle.evidence_format.specs.Numbers.{IsNumber};
 ghost use Rattle.net_core.specs.Clashes.{Agrees, IsClosedOver};
 ghost use Rattle.net_core.specs.Firsts.{IsFirst};
@@ -21,7 +21,7 @@ pub fn check_closed(net: &Net, cites: &[u32], steps: &[Step]) -> Result<(), Reas
     requires few { IsNumber (length steps.now) }
     requires cites { AreRisingLinks net.now cites.now }
     ensures ok { OnOk result (IsClosedOver net.now cites.now steps.now) }
-    ensures err { IfErr result (IsNoRound net.now cites.now steps.now) }
+    ensures err { IfErr result (IsNoClosedWalk net.now cites.now steps.now) }
 {
     let Some(first) = steps.first() else {
         return Err(Reason::Weak);

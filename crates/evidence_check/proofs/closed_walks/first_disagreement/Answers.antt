@@ -4,7 +4,7 @@ use Rattle.net_core.specs.Limits.{max_links}
 use Rattle.net_core.specs.Clashes.{Agrees}
 use Rattle.net_core.specs.Walks.{GoesOver}
 use Rattle.evidence_check.proofs.Marks.{alike, all_agree, are_alike, are_apart, newly_marked}
-use Rattle.evidence_check.proofs.rounds.first_disagreement.Goals as goal
+use Rattle.evidence_check.proofs.closed_walks.first_disagreement.Goals as goal
 
 pub returns-then-use_marked : goal.returns-then-use_marked
 returns-then-use_marked c k below =

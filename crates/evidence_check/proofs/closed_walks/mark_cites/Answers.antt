@@ -3,7 +3,7 @@ use Rattle.std.specs.List.{Contains}
 use Rattle.std.proofs.lemmas.List.{take_all}
 use Rattle.net_core.specs.Walks.{Kept}
 use Rattle.net_core.proofs.MarkLaws.{contains_more, then_more}
-use Rattle.evidence_check.proofs.rounds.mark_cites.Goals as goal
+use Rattle.evidence_check.proofs.closed_walks.mark_cites.Goals as goal
 
 pub loop-cite-init : goal.loop-cite-init
 loop-cite-init c k below = (

@@ -1,6 +1,0 @@
-use Rattle.evidence_check.proofs.ClosedWalks.{leads_round}
-use Rattle.evidence_check.proofs.rounds.check_closed.Goals as goal
-
-pub returns-in-None-clause-ok : goal.returns-in-None-clause-ok
-returns-in-None-clause-ok c =
-    leads_round c.args.net.now c.args.cites.now c.args.steps.now c.in-Some-step_atom.atom.from c.in-Ok.reached c.in-Ok.ensures.ok c.if-reached-atom.false c.if-not-reached.false c.in-None.ensures
