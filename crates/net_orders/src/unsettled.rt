@@ -10,9 +10,12 @@ use std::alloc::Global;
 /// How many turns ranks are given to settle with the first orders alone: mostly they do in one or two.
 const TURNS: u32 = 8;
 
+/// How many orders are tried at first.
+const FIRST_STEP: usize = 64;
+
 /// A link with which ranks no longer settle soon, though they do with the links before it, where the orders of links follow
-/// `fixed` others: mostly the first link that clashes with those before it. It is found by binary search. Nothing rests on the
-/// answer but which way a clash is looked for first.
+/// `fixed` others: mostly the first link that clashes with those before it. It is found by galloping search: what has settled
+/// is doubled until it no longer does, and then halved. Nothing rests on the answer but which way a clash is looked for first.
 ///
 /// # Errors
 ///
@@ -28,10 +31,12 @@ pub fn first_unsettled(
     ensures { IfOk result (λ found. IfSome found (λ link. link < length net.now.links)) }
 {
     let points = 2 * net.intervals() as usize;
-    let mut low = fixed.min(orders.len());
+    let first = fixed.min(orders.len());
+    let mut low = first;
     let mut high = orders.len();
     while low < high {
-        let middle = low + (high - low) / 2;
+        let step = (low - first).max(FIRST_STEP);
+        let middle = low + step.min((high - low) / 2);
         if settle_soon(alloc, points, &orders[..=middle], sequence)? {
             low = middle + 1;
         } else {
