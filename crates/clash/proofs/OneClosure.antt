@@ -1,16 +1,15 @@
 -- A net has a closure that is a closed table exactly where some timeline fits, and all closures of it have the same cells.
-use Rattle.std.proofs.Common.{◌≡◌, ◌↔◌, ℕ, ◌<◌, true, refl, sym, subst}
+use Rattle.std.proofs.Common.{◌≡◌, ◌↔◌, ℕ, true, refl, sym, subst}
 use Rattle.net_core.specs.Fits.{EveryLink, Fits, FitsWith}
-use Rattle.net_core.specs.Entailment.{HasTimeline}
 use Rattle.net_core.specs.Nets.{IsNet, PlainNet, points}
 use Rattle.net_core.specs.Relations.{Timeline}
 use Rattle.net_core.proofs.StepLaws.{fits_fewer}
 use Rattle.order_closure.specs.Cells.{Says}
-use Rattle.order_closure.specs.Tables.{AreCellsKept, IsClosed, Keeps, Table, cell_at, table_of}
+use Rattle.order_closure.specs.Tables.{AreCellsKept, IsClosed, Keeps, cell_at, table_of}
 use Rattle.order_closure.specs.declared.cell.Cell.{Cell}
 use Rattle.order_closure.specs.declared.cell.Cell.TheVariants.{Free, Strict, Weak}
 use Rattle.order_closure.proofs.Tables.{cell_at-table_of, table_of-closed}
-use Rattle.clash.specs.Closures.{HasOneClosure, IsClosureOf}
+use Rattle.clash.specs.Closures.{HasOneClosure}
 use Rattle.clash.proofs.Complete.{closed_cells}
 use Rattle.clash.proofs.Exact.{closure_from, one_fits}
 

@@ -94,23 +94,6 @@ fn clash_of(
             spares,
         });
     }
-    thinned_clash(alloc, net, fixed, first, needed)
-}
-
-/// The clash of some of the links that a walk goes over, of which one is needed.
-fn thinned_clash(
-    alloc: Global,
-    net: &Net,
-    fixed: &[Atom],
-    first: ClosedWalk,
-    needed: u32,
-) -> Result<Clash, Memory>
-    requires fixed { AreFixed net.now fixed.now }
-    requires round { IsMarkedWalk net.now first }
-    requires needed { needed < length net.now.links }
-    requires spared { IsSpared net.now (Kept first.over.items) needed }
-    ensures { IfOk result (IsProvedClash net.now) }
-{
     let round = thin(alloc, net, fixed, first, needed)?;
     let cites = marked(alloc, net, &round.over)?;
     let spares = spares_of(alloc, net, fixed, &round, cites.as_slice())?;

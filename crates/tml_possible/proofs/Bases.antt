@@ -97,14 +97,6 @@ has_number set r = by (base_number r) (number_small r)
         let parts : set.bits ≡ set.bits / 8192 * 2 ^ 13 + set.bits % 8192 = omega arith in
         ap (λ (n : ℕ). n == 1) (sym (ap (λ (n : ℕ). bit_at n k) parts ∙ bit_at_cat_low (set.bits / 8192) 13 (set.bits % 8192) k small))
 
--- what is in a set is a base relation
-pub has_base : (set : BaseSet) (r : Rel) → has set r ≡ true → Contains base_rels r
-has_base set r h = by (base_number r) refl
-  where
-    by : (o : Option ℕ) → base_number r ≡ o → Contains base_rels r
-    by None e = let both : true ≡ false = sym h ∙ not_numbered set r e in cc
-    by (Some k) e = numbered_is_base r (numbered r k e)
-
 -- two relations with one number are one
 abbrev base_at : ℕ → Rel
 base_at k = get_or base_rels k rel.OverlappedBy
@@ -164,16 +156,6 @@ one_more old s k bits is e r = by (base_number r) refl
             subst (λ (n : ℕ). bit_at bits n ≡ 1) (sym at_k) (omega (arith, set k, bit_at_or old.bits (2 ^ k) k, bit_at-pow_same k, bit_at-lt old.bits k))
       ]),
     )
-
--- a relation that is none adds nothing
-pub none_more : (old : BaseSet) (s : Rel) → base_number s ≡ None → AreMore old (λ r. r ≡ s) old
-none_more old s is r = (
-  λ h. inl h,
-  λ h. elim h [
-    | inl there ↦ there
-    | inr same ↦ absurd (none_there (base_number r) (ap base_number same.1 ∙ is) (base_is_numbered r same.0))
-  ],
-)
 
 -- ---- bits that are set one after another
 

@@ -383,7 +383,3 @@ module _ (basis : Basis) (asked : Asked) (ready : IsReady basis) (is : IsAsked b
     pub back_ends : (ys : List ℕ) → Contains ys q → (Contains ys p → ⊥)
         → ((o : Order) → IsWay basis asked o → Contains ys o.atom.to → IsPassedAt basis asked ys o.atom.from) → Decides basis asked false
     back_ends ys last first passed = path_or_fails (λ es leads. first (back_to_first ys last passed es p (λ t fits. omega arith) leads))
-
-  -- where a point is after the first and before the last the order holds, unless it is strict
-  pub meeting_follows : (x : ℕ) → asked.order.strict ≡ false → IsLed basis asked x → IsLedTo basis asked x → Decides basis asked true
-  meeting_follows x weak led to = λ t fits. subst (λ (b : Bool). IsInOrder b (t p) (t q)) (sym weak) (let a = led t fits in let b = to t fits in omega (arith, a, b))

@@ -1,7 +1,7 @@
 -- What a tree joins, and how it changes.
 use Rattle.std.proofs.Common.{◌≡◌, inl, inr, ℕ, ◌+◌, ◌<◌, ◌≤◌, Bool, true, false, List, [], ◌∷◌, ◌++◌, length, slice_index, slice_index_or, slice_set, take, Option, Some, None, IfSome, refl, sym, ap, subst, ◌∙◌, arith, get_or-set_other, get_or-set_same}
 use Rattle.std.specs.List.{All, Contains}
-use Rattle.std.proofs.lemmas.Bool.{OnTrue_at, cases_eq, cases_lt, eq-eqb, eqb-false, ne_eqb}
+use Rattle.std.proofs.lemmas.Bool.{OnTrue_at, cases_eq, cases_lt, eq-eqb, eqb-false}
 use Rattle.std.proofs.lemmas.List.{get_or-take, get_or_append_left, get_or_default, get_or_push, length-set, length_push}
 use Rattle.std.proofs.lemmas.List.Elements.{All-get_or, All-push, All-weaker}
 use Rattle.clash.specs.Closures.{IsClosureOf}
@@ -11,7 +11,7 @@ use Rattle.clash.proofs.Rounds.{others_set}
 use Rattle.net_core.specs.Atoms.{Satisfies}
 use Rattle.net_core.specs.Entailment.{HasTimeline}
 use Rattle.net_core.specs.Fits.{FitsWith}
-use Rattle.net_core.specs.Nets.{IsNet, points}
+use Rattle.net_core.specs.Nets.{IsNet}
 use Rattle.net_core.specs.Relations.{Timeline}
 use Rattle.net_core.proofs.WalkLaws.{in_order_weaker}
 use Rattle.tml_score.specs.Ends.{end_of, far_end_of}
@@ -130,17 +130,6 @@ module _ (basis : Basis) (roots : List ℕ) (near : End) (old new : Tree) (o : O
 
 -- ---- fewer orders
 
-module _ (basis : Basis) (roots : List ℕ) (near : End) where
-  -- no orders are a tree
-  pub no_tree : (tree : Tree) → tree.near ≡ near → length tree.turns.items ≡ points basis.net → length tree.in_use.items ≡ length basis.net.links → tree.orders.items ≡ [] → IsTree basis roots near tree
-  no_tree tree end turns in_use none = let size = ap length none in record {
-    end = end;
-    turns = turns;
-    in_use = in_use;
-    branches = λ i d lt. absurd (omega (arith, lt, size));
-    joined = λ i lt. absurd (omega (arith, lt, size));
-  }
-
 -- an order of another link is kept without one
 kept_without : (keep : List Bool) (link : ℕ) (m : Option ℕ) → is_link link m ≡ false → counts (λ k. slice_index_or keep k false) m ≡ true → counts (λ k. slice_index_or (slice_set keep link false) k false) m ≡ true
 kept_without keep link None other kept = refl
@@ -178,16 +167,6 @@ module _ (basis : Basis) (roots : List ℕ) (near : End) (old new : Tree) (link 
 -- ties stay ties without a link
 pub ties_without : (basis : Basis) (link : ℕ) (ties : Ties) → AreTies basis ties → AreTies (without basis link) ties
 ties_without basis link ties are = record { orders = are.orders; onward = are.onward; back = are.back; roots = are.roots }
-
--- an order in use isn't of a link that isn't
-unused_order : (in_use : List Bool) (link : ℕ) (m : Option ℕ) → slice_index_or in_use link false ≡ false → counts (λ k. slice_index_or in_use k false) m ≡ true → is_link link m ≡ false
-unused_order in_use link None unused used = refl
-unused_order in_use link (Some k) unused used = ne_eqb k link (λ same. let at = ap (λ (j : ℕ). slice_index_or in_use j false) same in let both : true ≡ false = sym used ∙ at ∙ unused in cc)
-
--- a tree has no orders of a link that it doesn't use
-pub unused_orders : (basis : Basis) (roots : List ℕ) (near : End) (tree : Tree) (link : ℕ) → IsTree basis roots near tree → slice_index_or tree.in_use.items link false ≡ false
-    → (i : ℕ) → i < length tree.orders.items → is_of link (order_at tree.orders.items i) ≡ false
-unused_orders basis roots near tree link is unused i lt = unused_order tree.in_use.items link (order_at tree.orders.items i).link unused (All-get_or (IsBranch basis tree.in_use.items) tree.orders.items i no_order lt is.branches).used
 
 -- ---- links one after another
 

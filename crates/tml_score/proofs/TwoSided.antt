@@ -3,7 +3,7 @@ use Rattle.std.proofs.Common.{◌≡◌, inl, inr, ℕ, ◌+◌, ◌<◌, true, 
 use Rattle.std.specs.List.{All, Contains}
 use Rattle.std.proofs.lemmas.Bool.{cases_lt}
 use Rattle.std.proofs.lemmas.List.{get_or_default}
-use Rattle.std.proofs.lemmas.List.Elements.{All-cons, All-nil, All-push, Contains-get_or, Contains-push_cases}
+use Rattle.std.proofs.lemmas.List.Elements.{All-push, Contains-get_or, Contains-push_cases}
 use Rattle.net_orders.specs.declared.orders.Order.{Order}
 use Rattle.tml_score.specs.Ends.{end_of, far_end_of}
 use Rattle.tml_score.specs.Graph.{AreOfPoint, by_end}
@@ -15,7 +15,6 @@ use Rattle.tml_score.specs.declared.ends.End.{End}
 use Rattle.tml_score.specs.declared.ends.End.TheVariants.{From, To}
 use Rattle.tml_score.specs.declared.search.Asked.{Asked}
 use Rattle.net_core.specs.Nets.{points}
-use Rattle.clash.proofs.Elements.{first_or_rest}
 use Rattle.tml_score.proofs.GraphLaws.{at_end}
 use Rattle.tml_score.proofs.Searching.{goes_back, goes_on}
 use Rattle.tml_score.proofs.TieLaws.{far_within}
@@ -81,13 +80,6 @@ module _ (basis : Basis) (asked : Asked) where
       goes_far From = goes_on basis asked ready is
       goes_far To = goes_back basis asked ready is
 
-  -- a side of one point
-  pub one_point_side : (P : ℕ → Type 0) (x : ℕ) (old new : PlainReached) → P x → old.room ≡ points basis.net → new ≡ record { points = x ∷ []; room = old.room } → IsSide basis P new
-  one_point_side P x old new here room same = record {
-    room = ap (λ (r : PlainReached). r.room) same ∙ room;
-    all = subst (All P) (sym (ap (λ (r : PlainReached). r.points) same)) (All-cons P x [] here (All-nil P));
-  }
-
   -- the points of one turn more are passed
   pub passed_turn : (near : End) (turn : ℕ) (old new : PlainReached) → turn < length old.points → Extends old new
       → ((k : ℕ) → k < turn → (o : Order) → IsWay basis asked o → end_of near o ≡ slice_index old.points k → IsPassedAt basis asked old.points (far_end_of near o))
@@ -99,13 +91,3 @@ module _ (basis : Basis) (asked : Asked) where
         let same : k ≡ turn = omega (arith, last, less) in
         here o way (at ∙ ap (slice_index new.points) same ∙ same_point old new more turn lt)
   ]
-
--- sides of one point each
-pub one_point_apart : (x y : ℕ) (own other : PlainReached) → (x ≡ y → ⊥) → own.points ≡ x ∷ [] → other.points ≡ y ∷ [] → AreApart own other
-one_point_apart x y own other ne mine theirs = λ z here there.
-    let one = only x z (subst (λ (xs : List ℕ). Contains xs z) mine here) in
-    let two = only y z (subst (λ (xs : List ℕ). Contains xs z) theirs there) in
-    ne (one ∙ sym two)
-  where
-    only : (a b : ℕ) → Contains (a ∷ []) b → a ≡ b
-    only a b h = elim (first_or_rest a [] b h) [ inl e ↦ e | inr none ↦ let lt = none.1 in absurd (omega arith) ]
