@@ -1,20 +1,20 @@
 -- What the rows of a document have, by what its contents are answered; and those of a document and another file.
-use Rattle.std.proofs.Common.{◌≡◌, ℕ, List, [], ◌∷◌, false, refl, sym, ap, subst, ◌∙◌, inl, inr}
+use Rattle.std.proofs.Common.{◌⊎◌, ◌≤◌, ℕ, List, [], ◌∷◌, length, refl, sym, ap, ◌∙◌, inl, inr}
+use Rattle.std.specs.Prelude.{⊤}
 use Rattle.net_core.specs.Limits.{max_document}
-use Rattle.tml_accept.specs.Acceptance.{Says}
+use Rattle.tml_accept.specs.Acceptance.{Accepted, Says}
 use Rattle.tml_accept.proofs.Judged.{every_document}
 use Rattle.tml_accept.proofs.Phases.{accepted_or_fault, one_document}
 use Rattle.tml_refs.specs.Documents.{PlainDocument}
 use Rattle.runs.specs.declared.status.Status.{Status}
 use Rattle.runs.specs.declared.status.Status.TheVariants.{DocFault}
-use Rattle.runs.specs.Answered.{AreAnswered, NeverFree}
 use Rattle.runs.specs.OneFile.{of_its_bytes}
-use Rattle.runs.proofs.Answering.{IsAnswered, IsDecisive}
-use Rattle.runs.proofs.OneFile.{answered, freer}
 use Rattle.runs.specs.OneReply.{is_broken_off}
-use Rattle.runs.specs.Rows.{File}
+use Rattle.runs.specs.Rows.{File, NeverFree}
+use Rattle.runs.proofs.Answering.{Answer, AreAnswered, HasAnswer, IsAnswered, IsAnsweredAfter, IsDecisive, by_the_one, freed, given_by, left_only, right_only}
+use Rattle.runs.proofs.OneFile.{answered, freer}
 use Rattle.runs.proofs.TwoFiles.{both_answered, both_answered_once, refused_first}
-use Rattle.answers.specs.Documents.{Contents, doc_file, document_rows, of_contents, of_its_contents}
+use Rattle.answers.specs.Documents.{Contents, IsDocumentRefused, doc_file, document_rows, of_contents, of_its_contents}
 use Rattle.answers.proofs.Answering.{ContentsAreAnswered, IsAnsweredByDocument}
 use Rattle.answers.specs.Judged.{Judgements, JudgesFirst, documents, judged_rows, of_judged}
 use Rattle.answers.specs.Lines.{fault_line}
@@ -22,36 +22,29 @@ use Rattle.answers.proofs.Refusals.{one_refusal}
 
 -- ---- one document
 
-module _ (Of : Contents) (IsFree : PlainDocument → Status → Type 0) (are : ContentsAreAnswered Of IsFree) where
-  -- what a document says is answered
-  along : (doc : List ℕ) (contents other : PlainDocument) (status : Status) (text : List ℕ) → Says doc contents → Says doc other → Of contents status text → Of other status text
-  along doc contents other status text says too h = subst (λ (c : PlainDocument). Of c status text) (one_document doc contents other says too) h
+-- the refusal of a document is one answer
+refusal : (doc : List ℕ) (IsGiven : Type 0) (IsFree : Status → Type 0) → (IsGiven → HasAnswer (IsDocumentRefused doc)) → IsAnswered IsGiven (IsDocumentRefused doc) IsFree
+refusal doc IsGiven IsFree some = record {
+  some = some;
+  one_status = λ status other text line h k. h.0 ∙ sym k.0;
+  whole = λ status text h. ap is_broken_off h.0;
+  one_text = λ status text line determined h k. one_refusal doc status status text line h k;
+}
 
-  some : (doc : List ℕ) → (status : Status) × (text : List ℕ) × of_contents Of doc status text
-  some doc = elim (every_document doc) [
-    | inl accepted ↦ let answer = are.some doc accepted.0 accepted.1 in (answer.0, answer.1, inr (accepted.0, accepted.1, answer.2))
-    | inr fault ↦ (DocFault, fault_line fault.0 fault.1, inl (refl, (fault.0, fault.1, fault.2, refl)))
-  ]
+-- a document that is not refused has an answer, where this is one of each that is accepted
+pub refused_or : (doc : List ℕ) (Of : Answer) (IsFree : Status → Type 0) → ((status : Status) (text : List ℕ) → Of status text → Accepted doc) → (Accepted doc → IsAnswered ⊤ Of IsFree)
+    → IsAnswered ⊤ (λ status text. IsDocumentRefused doc status text ⊎ Of status text) IsFree
+refused_or doc Of IsFree accepts are = elim (every_document doc) [
+  | inl accepted ↦ right_only (are accepted) (IsDocumentRefused doc) (λ status text refused. accepted_or_fault doc refused.1.0 refused.1.1 accepted refused.1.2)
+  | inr fault ↦ left_only (refusal doc ⊤ IsFree (λ given. (DocFault, fault_line fault.0 fault.1, (refl, (fault.0, fault.1, fault.2, refl))))) Of
+      (λ status text h. accepted_or_fault doc fault.0 fault.1 (accepts status text h) fault.2)
+]
 
-  one_status : (doc : List ℕ) (status other : Status) (text line : List ℕ) → of_contents Of doc status text → of_contents Of doc other line → status ≡ other
-  one_status doc status other text line (inl h) (inl k) = h.0 ∙ sym k.0
-  one_status doc status other text line (inl h) (inr k) = absurd (accepted_or_fault doc h.1.0 h.1.1 (k.0, k.1) h.1.2)
-  one_status doc status other text line (inr h) (inl k) = absurd (accepted_or_fault doc k.1.0 k.1.1 (h.0, h.1) k.1.2)
-  one_status doc status other text line (inr h) (inr k) = are.one_status doc k.0 k.1 status other text line (along doc h.0 k.0 status text h.1 k.1 h.2) k.2
-
-  whole : (doc : List ℕ) (status : Status) (text : List ℕ) → of_contents Of doc status text → is_broken_off status ≡ false
-  whole doc status text (inl h) = ap is_broken_off h.0
-  whole doc status text (inr h) = are.whole h.0 status text h.2
-
-  one_text : (doc : List ℕ) (status : Status) (text line : List ℕ) → (of_its_contents IsFree doc status → ⊥) → of_contents Of doc status text → of_contents Of doc status line → text ≡ line
-  one_text doc status text line determined (inl h) (inl k) = one_refusal doc status status text line h k
-  one_text doc status text line determined (inl h) (inr k) = absurd (accepted_or_fault doc h.1.0 h.1.1 (k.0, k.1) h.1.2)
-  one_text doc status text line determined (inr h) (inl k) = absurd (accepted_or_fault doc k.1.0 k.1.1 (h.0, h.1) k.1.2)
-  one_text doc status text line determined (inr h) (inr k) =
-      are.one_text doc k.0 k.1 status text line (λ free. determined (k.0, k.1, free)) (along doc h.0 k.0 status text h.1 k.1 h.2) k.2
-
-  pub contents_answered : IsAnswered max_document (of_contents Of) (of_its_contents IsFree)
-  contents_answered = record { some = λ doc short. some doc; one_status = one_status; whole = whole; one_text = one_text }
+pub contents_answered : (Of : Contents) (IsFree : PlainDocument → Status → Type 0) → ContentsAreAnswered Of IsFree → (doc : List ℕ) → IsAnswered ⊤ (of_contents Of doc) (of_its_contents IsFree doc)
+contents_answered Of IsFree are doc =
+    refused_or doc (λ status text. (contents : PlainDocument) × Says doc contents × Of contents status text) (of_its_contents IsFree doc) (λ status text h. (h.0, h.1)) (λ accepted.
+    by_the_one (Says doc) (one_document doc) Of accepted.0 accepted.1
+    (freed (are doc accepted.0 accepted.1) (of_its_contents IsFree doc) (λ status free. (accepted.0, accepted.1, free))))
 
 -- no contents leave a text open
 abbrev Never : List ℕ → Status → Type 0
@@ -76,18 +69,20 @@ documents_judged = record {
   ];
   not_both = λ doc status text accepted refused. accepted_or_fault doc refused.1.0 refused.1.1 accepted refused.1.2;
   one_said = λ doc contents other says too. one_document doc contents other says too;
-  one_status = λ doc status other text line h k. h.0 ∙ sym k.0;
-  whole = λ doc status text refused. ap is_broken_off refused.0;
-  one_text = λ doc status text line h k. one_refusal doc status status text line h k;
+  refusal = λ doc. refusal doc (HasAnswer (IsDocumentRefused doc)) (λ status. ⊥) (λ given. given);
 }
 
+-- an answer that always is, where both files are within their limits
+within : (limit : ℕ) (Of : Judgements) (IsFree : PlainDocument → List ℕ → Status → Type 0) → IsAnsweredByDocument Of IsFree → IsAnsweredAfter documents max_document limit Of IsFree
+within limit Of IsFree are doc contents says bytes = given_by (are doc contents says bytes) ((length doc ≤ max_document) × (length bytes ≤ limit)) (λ short. tt)
+
 -- the rows of a command that is asked of a document and another file
-pub judged_answered : (name : List ℕ) (file : File) (Of : Judgements) (IsFree : PlainDocument → List ℕ → Status → Type 0) → IsAnsweredByDocument file.limit Of IsFree → AreAnswered (judged_rows name file Of) (of_judged IsFree)
-judged_answered name file Of IsFree are = both_answered documents (doc_file name) file Of IsFree documents_judged are
+pub judged_answered : (name : List ℕ) (file : File) (Of : Judgements) (IsFree : PlainDocument → List ℕ → Status → Type 0) → IsAnsweredByDocument Of IsFree → AreAnswered (judged_rows name file Of) (of_judged IsFree)
+judged_answered name file Of IsFree are = both_answered documents (doc_file name) file Of IsFree documents_judged (within file.limit Of IsFree are)
 
 -- and of one of which every text is determined
-pub judged_answered_once : (name : List ℕ) (file : File) (Of : Judgements) → IsAnsweredByDocument file.limit Of (λ contents other status. ⊥) → AreAnswered (judged_rows name file Of) NeverFree
-judged_answered_once name file Of are = both_answered_once documents (doc_file name) file Of documents_judged are
+pub judged_answered_once : (name : List ℕ) (file : File) (Of : Judgements) → IsAnsweredByDocument Of (λ contents other status. ⊥) → AreAnswered (judged_rows name file Of) NeverFree
+judged_answered_once name file Of are = both_answered_once documents (doc_file name) file Of documents_judged (within file.limit Of (λ contents other status. ⊥) are)
 
 -- such rows judge the document first
 pub judges_first : (name : List ℕ) (file : File) (Of : Judgements) → JudgesFirst name (judged_rows name file Of)

@@ -5,9 +5,8 @@ use Rattle.net_core.specs.Limits.{max_document}
 use Rattle.tml_accept.specs.Acceptance.{FirstFault, Says}
 use Rattle.tml_io.specs.Files.{Files, held}
 use Rattle.tml_refs.specs.Documents.{PlainDocument}
-use Rattle.runs.specs.Answered.{Freedom}
 use Rattle.runs.specs.OneFile.{Answers}
-use Rattle.runs.specs.Rows.{File, Rows}
+use Rattle.runs.specs.Rows.{File, Freedom, Rows}
 use Rattle.runs.specs.TwoFiles.{IsRefusedFirst, Judging, of_both, of_two_files}
 use Rattle.runs.specs.declared.status.Status.{Status}
 use Rattle.answers.specs.Documents.{IsDocumentRefused, doc_file}

@@ -1,5 +1,5 @@
 -- The times of every document have one text.
-use Rattle.std.proofs.Common.{◌≡◌, ℕ, ℤ, List, [], ◌∷◌, ◌++◌, codes, false, refl}
+use Rattle.std.proofs.Common.{◌≡◌, ℕ, ℤ, List, [], ◌∷◌, ◌++◌, codes, refl}
 use Rattle.std.specs.List.{All, AllZip}
 use Rattle.std.proofs.lemmas.List.Elements.{All-head, All-tail}
 use Rattle.answers.proofs.Answered.{document_answered}
@@ -13,10 +13,10 @@ use Rattle.timex_dates.specs.Seconds.{IsCivilSecond}
 use Rattle.timex_dates.proofs.EveryText.{every_text}
 use Rattle.tml_accept.specs.Acceptance.{Says}
 use Rattle.tml_refs.specs.Documents.{PlainDocument, PlainInterval, instance, time}
-use Rattle.runs.specs.Answered.{AreAnswered, NeverFree}
-use Rattle.runs.specs.OneReply.{is_broken_off}
+use Rattle.runs.specs.Rows.{NeverFree}
 use Rattle.runs.specs.declared.status.Status.{Status}
 use Rattle.runs.specs.declared.status.Status.TheVariants.{Done}
+use Rattle.runs.proofs.Answering.{AreAnswered, one_answer}
 use Rattle.document_answers.specs.Dates.{BoundsText, DateLine, DateLines, EndsText, OfDates, dates_rows, numbers}
 use Rattle.document_answers.proofs.OneDateLines.{one_date_lines}
 
@@ -49,31 +49,18 @@ date_lines (interval ∷ intervals) (b ∷ bounds) has civil =
     let rest = date_lines intervals bounds has.1 (All-tail IsCivil b bounds civil) in
     (line.0 ++ rest.0, (line.0, rest.0, line.1, rest.1, refl))
 
-some : (doc : List ℕ) (contents : PlainDocument) → Says doc contents → (status : Status) × (text : List ℕ) × OfDates contents status text
+some : (doc : List ℕ) (contents : PlainDocument) → Says doc contents → (text : List ℕ) × OfDates contents Done text
 some doc contents says =
     let net = every_net contents (its_document doc contents says) in
-    let lines = date_lines contents.intervals net.0.bounds net.1.bounds net.3 in
-    (Done, lines.0, lines.1)
+    date_lines contents.intervals net.0.bounds net.1.bounds net.3
 
 -- ---- and one text of them
 
-one_status : (contents : PlainDocument) (status other : Status) (text line : List ℕ) → OfDates contents status text → OfDates contents other line → status ≡ other
-one_status contents Done Done text line h k = refl
-one_status contents Done other text line h k = absurd k
-one_status contents status other text line h k = absurd h
-
-whole : (contents : PlainDocument) (status : Status) (text : List ℕ) → OfDates contents status text → is_broken_off status ≡ false
-whole contents Done text h = refl
-whole contents status text h = absurd h
-
-one_text : (contents : PlainDocument) (status : Status) (text line : List ℕ) → OfDates contents status text → OfDates contents status line → text ≡ line
-one_text contents Done text line h k = one_date_lines contents.intervals text line h k
-one_text contents status text line h k = absurd h
+done : (contents : PlainDocument) (status : Status) (text : List ℕ) → OfDates contents status text → status ≡ Done
+done contents Done text h = refl
+done contents status text h = absurd h
 
 pub dates_answered : (name : List ℕ) → AreAnswered (dates_rows name) NeverFree
-dates_answered name = document_answered OfDates (record {
-  some = some;
-  one_status = λ doc contents says. one_status contents;
-  whole = whole;
-  one_text = λ doc contents says status text line determined h k. one_text contents status text line h k;
-}) name
+dates_answered name = document_answered OfDates (λ doc contents says.
+    let lines = some doc contents says in
+    one_answer (OfDates contents) (λ status. ⊥) Done refl (done contents) (λ text line determined h k. one_date_lines contents.intervals text line h k) lines.0 lines.1) name

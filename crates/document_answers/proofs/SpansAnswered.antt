@@ -1,13 +1,15 @@
 -- Every document has one table of its units, or one fault of the cut.
 use Rattle.std.proofs.Common.{◌≡◌, ℕ, List, [], false, refl, sym, ap, subst, ◌∙◌, inl, inr}
+use Rattle.std.specs.Prelude.{⊤}
 use Rattle.answers.specs.Documents.{doc_file}
 use Rattle.answers.specs.Lines.{fault_line}
 use Rattle.answers.proofs.Refusals.{one_fault_line}
 use Rattle.tml_accept.proofs.Phases.{One}
-use Rattle.runs.specs.Answered.{AreAnswered, NeverFree}
+use Rattle.runs.specs.Rows.{NeverFree}
 use Rattle.runs.specs.OneReply.{is_broken_off}
 use Rattle.runs.specs.declared.status.Status.{Status}
 use Rattle.runs.specs.declared.status.Status.TheVariants.{Done, DocFault}
+use Rattle.runs.proofs.Answering.{AreAnswered, IsAnswered}
 use Rattle.runs.proofs.OneFile.{answered_once}
 use Rattle.tml_span.specs.Cutting.{Cuts}
 use Rattle.tml_span.specs.Faults.{CutFault}
@@ -59,5 +61,8 @@ one_text doc Done text line h k = one_table doc text line h k
 one_text doc DocFault text line h k = one_fault_line (λ kind place. CutFault doc place kind) text line (one_cut_fault doc) h k
 one_text doc status text line h k = absurd h
 
+units : (doc : List ℕ) → IsAnswered ⊤ (OfSpans doc) (λ status. ⊥)
+units doc = record { some = λ given. some doc; one_status = one_status doc; whole = whole doc; one_text = λ status text line determined. one_text doc status text line }
+
 pub spans_answered : (name : List ℕ) → AreAnswered (spans_rows name) NeverFree
-spans_answered name = answered_once (doc_file name) OfSpans (record { some = λ doc short. some doc; one_status = one_status; whole = whole; one_text = λ doc status text line determined h k. one_text doc status text line h k })
+spans_answered name = answered_once (doc_file name) OfSpans units

@@ -1,10 +1,10 @@
 -- A text of seconds has one answer, by its document: one status, and one line.
 use Rattle.std.proofs.Common.{◌≡◌, ◌⊎◌, ℕ, List, codes, false, refl, sym, ap, subst, ◌∙◌, inl, inr}
+use Rattle.std.specs.Prelude.{⊤}
 use Rattle.answers.proofs.Answering.{IsAnsweredByDocument}
 use Rattle.answers.specs.Lines.{numbered}
 use Rattle.answers.proofs.Answered.{judged_answered_once}
 use Rattle.answers.proofs.Contents.{its_document}
-use Rattle.net_core.specs.Limits.{max_evidence}
 use Rattle.seconds_build.specs.Built.{IsTimedOf}
 use Rattle.seconds_build.proofs.EveryTime.{every_timed}
 use Rattle.seconds_build.proofs.Nets.{one_timed}
@@ -15,12 +15,11 @@ use Rattle.seconds_core.specs.Evidence.{PlainEvidence, Placed, Cycle}
 use Rattle.seconds_core.specs.Timed.{PlainTimed}
 use Rattle.seconds_format.specs.Texts.{IsText}
 use Rattle.seconds_format.proofs.Reading.{every_text, one_bad, one_value}
-use Rattle.tml_accept.specs.Acceptance.{Says}
-use Rattle.tml_refs.specs.Documents.{PlainDocument}
-use Rattle.runs.specs.Answered.{AreAnswered, NeverFree}
+use Rattle.runs.specs.Rows.{NeverFree}
 use Rattle.runs.specs.OneReply.{is_broken_off}
 use Rattle.runs.specs.declared.status.Status.{Status}
 use Rattle.runs.specs.declared.status.Status.TheVariants.{Done, EvidenceFault}
+use Rattle.runs.proofs.Answering.{AreAnswered, HasAnswer, IsAnswered, by_the_one}
 use Rattle.evidence_answers.specs.ConfirmTexts.{claim_line, refusal_line}
 use Rattle.evidence_answers.specs.Confirmed.{OfConfirm, OfText, ReportsBadLine, ReportsClaim, ReportsRefusal, confirm_rows, seconds_file}
 
@@ -59,33 +58,32 @@ module _ (timed : PlainTimed) (bytes : List ℕ) where
   whole EvidenceFault text h = refl
   whole status text h = absurd h
 
--- a document has one net with limits
-along : (contents : PlainDocument) (bytes : List ℕ) (status : Status) (text : List ℕ) (timed other : PlainTimed) → IsTimedOf contents timed → IsTimedOf contents other → OfText timed bytes status text → OfText other bytes status text
-along contents bytes status text timed other built too h = subst (λ (t : PlainTimed). OfText t bytes status text) (one_timed contents timed other built too) h
-
 -- the seconds of a text are a start and an end of each interval
 paired : (e : PlainEvidence) (bytes : List ℕ) → IsText e bytes → IsPaired e
 paired (Placed seconds) bytes is = is.0.0.0
 paired (Cycle lines) bytes is = tt
 
-some : (doc : List ℕ) (contents : PlainDocument) → Says doc contents → (bytes : List ℕ) → (status : Status) × (text : List ℕ) × OfConfirm contents bytes status text
-some doc contents says bytes =
-    let (timed, built, is) = every_timed contents (its_document doc contents says) in
-    elim (every_text bytes) [
-      | inr bad ↦ (EvidenceFault, numbered (codes "evidence line ") bad.1, (timed, built, inl (bad.0, bad.1, bad.2, refl)))
-      | inl e ↦ elim (confirmed_or_refused timed e.0 (paired e.0 bytes e.1)) [
-        | inl confirmed ↦ (Done, claim_line e.0, (timed, built, (e.0, e.1, confirmed, refl)))
-        | inr refused ↦ (EvidenceFault, refusal_line refused.0, (timed, built, inr (e.0, refused.0, e.1, refused.1, refl)))
-      ]
-    ]
+some : (timed : PlainTimed) (bytes : List ℕ) → HasAnswer (OfText timed bytes)
+some timed bytes = elim (every_text bytes) [
+  | inr bad ↦ (EvidenceFault, numbered (codes "evidence line ") bad.1, inl (bad.0, bad.1, bad.2, refl))
+  | inl e ↦ elim (confirmed_or_refused timed e.0 (paired e.0 bytes e.1)) [
+    | inl confirmed ↦ (Done, claim_line e.0, (e.0, e.1, confirmed, refl))
+    | inr refused ↦ (EvidenceFault, refusal_line refused.0, inr (e.0, refused.0, e.1, refused.1, refl))
+  ]
+]
 
-pub confirm_judged : IsAnsweredByDocument max_evidence OfConfirm (λ contents bytes status. ⊥)
-confirm_judged = record {
-  some = λ doc short contents says bytes few. some doc contents says bytes;
-  one_status = λ doc contents says bytes status other text line h k. same_status k.0 bytes status other text line (along contents bytes status text h.0 k.0 h.1 k.1 h.2) k.2;
-  whole = λ contents bytes status text h. whole h.0 bytes status text h.2;
-  one_text = λ doc contents says bytes status text line determined h k. same_text k.0 bytes status text line (along contents bytes status text h.0 k.0 h.1 k.1 h.2) k.2;
+of_timed : (timed : PlainTimed) (bytes : List ℕ) → IsAnswered ⊤ (OfText timed bytes) (λ status. ⊥)
+of_timed timed bytes = record {
+  some = λ given. some timed bytes;
+  one_status = same_status timed bytes;
+  whole = whole timed bytes;
+  one_text = λ status text line determined. same_text timed bytes status text line;
 }
+
+pub confirm_judged : IsAnsweredByDocument OfConfirm (λ contents bytes status. ⊥)
+confirm_judged doc contents says bytes =
+    let (timed, built, is) = every_timed contents (its_document doc contents says) in
+    by_the_one (IsTimedOf contents) (one_timed contents) (λ timed. OfText timed bytes) timed built (of_timed timed bytes)
 
 pub confirm_answered : (name seconds : List ℕ) → AreAnswered (confirm_rows name seconds) NeverFree
 confirm_answered name seconds = judged_answered_once name (seconds_file seconds) OfConfirm confirm_judged

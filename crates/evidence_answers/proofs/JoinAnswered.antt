@@ -6,9 +6,9 @@ use Rattle.evidence_format.specs.Evidence.{PlainEvidence}
 use Rattle.evidence_format.proofs.Claims.{both_have_text}
 use Rattle.evidence_format.proofs.Reading.{bundle_or_bad_line}
 use Rattle.net_core.specs.Limits.{max_evidence}
-use Rattle.runs.specs.Answered.{AreAnswered, NeverFree}
+use Rattle.runs.specs.Rows.{NeverFree}
 use Rattle.runs.specs.OneReply.{is_broken_off}
-use Rattle.runs.proofs.Answering.{IsAnsweredAfter, IsDecisive}
+use Rattle.runs.proofs.Answering.{AreAnswered, HasAnswer, IsAnsweredAfter, IsDecisive}
 use Rattle.runs.specs.declared.status.Status.{Status}
 use Rattle.runs.specs.declared.status.Status.TheVariants.{Done, EvidenceFault}
 use Rattle.runs.proofs.TwoFiles.{both_answered_once}
@@ -26,12 +26,15 @@ evidence_judged = record {
   ];
   not_both = λ bytes status text says refused. refused.1.0 says.0 says.1;
   one_said = λ bytes es ds h k. one_bundle es ds bytes h k;
-  one_status = λ bytes status other text line h k. h.0 ∙ sym k.0;
-  whole = λ bytes status text h. ap is_broken_off h.0;
-  one_text = λ bytes status text line h k. one_report (codes "evidence line ") bytes text line h.1 k.1;
+  refusal = λ bytes. record {
+    some = λ refused. refused;
+    one_status = λ status other text line h k. h.0 ∙ sym k.0;
+    whole = λ status text h. ap is_broken_off h.0;
+    one_text = λ status text line determined h k. one_report (codes "evidence line ") bytes text line h.1 k.1;
+  };
 }
 
-some : (one : List ℕ) → length one ≤ max_evidence → (es : List PlainEvidence) → IsTextOfEither es one → (other : List ℕ) → length other ≤ max_evidence → (status : Status) × (text : List ℕ) × OfSecond es other status text
+some : (one : List ℕ) → length one ≤ max_evidence → (es : List PlainEvidence) → IsTextOfEither es one → (other : List ℕ) → length other ≤ max_evidence → HasAnswer (OfSecond es other)
 some one short es says other few = elim (bundle_or_bad_line other) [
   | inl e ↦ (Done, concat (bundle_lines (es ++ e.0)), (e.0, e.1, both_have_text es e.0 one other says e.1 (omega (arith, short, few))))
   | inr bad ↦ (EvidenceFault, numbered (codes "second line ") bad.1, (bad.0, bad.1, bad.2, refl))
@@ -57,11 +60,11 @@ one_text es bytes EvidenceFault text line h k = one_report (codes "second line "
 one_text es bytes status text line h k = absurd h
 
 second_answered : IsAnsweredAfter evidence max_evidence max_evidence OfSecond (λ es other status. ⊥)
-second_answered = record {
-  some = some;
-  one_status = λ one es says. one_status es;
-  whole = whole;
-  one_text = λ one es says bytes status text line determined h k. one_text es bytes status text line h k;
+second_answered one es says other = record {
+  some = λ short. some one short.0 es says other short.1;
+  one_status = one_status es other;
+  whole = whole es other;
+  one_text = λ status text line determined. one_text es other status text line;
 }
 
 pub join_answered : (name other : List ℕ) → AreAnswered (join_rows name other) NeverFree

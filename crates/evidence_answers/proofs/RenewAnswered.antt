@@ -1,13 +1,13 @@
 -- Evidence has one text of version 2, or one bad line.
 use Rattle.std.proofs.Common.{◌≡◌, ℕ, List, false, refl, sym, ap, ◌∙◌, inl, inr, codes}
+use Rattle.std.specs.Prelude.{⊤}
 use Rattle.std.specs.List.{concat}
 use Rattle.evidence_format.specs.Bundles.{bundle_lines}
 use Rattle.evidence_format.specs.Evidence.{PlainEvidence}
 use Rattle.evidence_format.proofs.Claims.{has_text}
 use Rattle.evidence_format.proofs.Reading.{bundle_or_bad_line}
-use Rattle.net_core.specs.Limits.{max_evidence}
-use Rattle.runs.specs.Answered.{AreAnswered, NeverFree}
-use Rattle.runs.proofs.Answering.{IsAnswered}
+use Rattle.runs.specs.Rows.{NeverFree}
+use Rattle.runs.proofs.Answering.{AreAnswered, HasAnswer, IsAnswered}
 use Rattle.runs.specs.OneReply.{is_broken_off}
 use Rattle.runs.specs.declared.status.Status.{Status}
 use Rattle.runs.specs.declared.status.Status.TheVariants.{Done, EvidenceFault}
@@ -17,7 +17,7 @@ use Rattle.evidence_answers.specs.Files.{evidence_file}
 use Rattle.evidence_answers.specs.Renew.{OfRenew, renew_rows}
 use Rattle.evidence_answers.proofs.Files.{one_bundle, one_report}
 
-some : (bytes : List ℕ) → (status : Status) × (text : List ℕ) × OfRenew bytes status text
+some : (bytes : List ℕ) → HasAnswer (OfRenew bytes)
 some bytes = elim (bundle_or_bad_line bytes) [
   | inl e ↦ (Done, concat (bundle_lines e.0), (e.0, e.1, has_text e.0 bytes e.1))
   | inr bad ↦ (EvidenceFault, numbered (codes "evidence line ") bad.1, (bad.0, bad.1, bad.2, refl))
@@ -42,8 +42,8 @@ one_text bytes Done text line h k = h.2.1 ∙ ap (λ (es : List PlainEvidence). 
 one_text bytes EvidenceFault text line h k = one_report (codes "evidence line ") bytes text line h k
 one_text bytes status text line h k = absurd h
 
-renewed : IsAnswered max_evidence OfRenew (λ bytes status. ⊥)
-renewed = record { some = λ bytes short. some bytes; one_status = one_status; whole = whole; one_text = λ bytes status text line determined h k. one_text bytes status text line h k }
+renewed : (bytes : List ℕ) → IsAnswered ⊤ (OfRenew bytes) (λ status. ⊥)
+renewed bytes = record { some = λ given. some bytes; one_status = one_status bytes; whole = whole bytes; one_text = λ status text line determined. one_text bytes status text line }
 
 pub renew_answered : (name : List ℕ) → AreAnswered (renew_rows name) NeverFree
 renew_answered name = answered_once (evidence_file name) OfRenew renewed

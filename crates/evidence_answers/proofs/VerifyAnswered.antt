@@ -1,5 +1,6 @@
 -- Evidence of a document has one answer: one status, and one text.
 use Rattle.std.proofs.Common.{◌≡◌, ◌⊎◌, ℕ, List, codes, false, refl, sym, ap, subst, ◌∙◌, inl, inr}
+use Rattle.std.specs.Prelude.{⊤}
 use Rattle.answers.proofs.Answering.{IsAnsweredByDocument}
 use Rattle.answers.specs.Lines.{numbered}
 use Rattle.answers.proofs.Answered.{judged_answered_once}
@@ -12,14 +13,13 @@ use Rattle.evidence_format.proofs.Reading.{bundle_or_bad_line}
 use Rattle.net_build.specs.Built.{IsNetOf}
 use Rattle.net_build.proofs.EveryNet.{every_net}
 use Rattle.net_build.proofs.OneNet.{one_net}
-use Rattle.net_core.specs.Limits.{max_evidence}
 use Rattle.net_core.specs.Nets.{PlainNet}
-use Rattle.tml_accept.specs.Acceptance.{Says}
 use Rattle.tml_refs.specs.Documents.{PlainDocument}
-use Rattle.runs.specs.Answered.{AreAnswered, NeverFree}
+use Rattle.runs.specs.Rows.{NeverFree}
 use Rattle.runs.specs.OneReply.{is_broken_off}
 use Rattle.runs.specs.declared.status.Status.{Status}
 use Rattle.runs.specs.declared.status.Status.TheVariants.{Done, EvidenceFault}
+use Rattle.runs.proofs.Answering.{AreAnswered, HasAnswer, IsAnswered, by_the_one}
 use Rattle.evidence_answers.specs.Files.{ReportsEvidenceLine, evidence_file}
 use Rattle.evidence_answers.specs.Texts.{claim_lines, refusal_line}
 use Rattle.evidence_answers.specs.Verify.{OfEvidence, OfVerify, ReportsClaims, ReportsRefusal, verify_rows}
@@ -58,33 +58,32 @@ same_text contents net bytes Done text line h k = h.4 ∙ ap (claim_lines conten
 same_text contents net bytes EvidenceFault text line h k = same_fault net bytes text line h k
 same_text contents net bytes status text line h k = absurd h
 
--- a document has one net
-along : (contents : PlainDocument) (evidence : List ℕ) (status : Status) (text : List ℕ) (net other : PlainNet) → IsNetOf contents net → IsNetOf contents other → OfEvidence contents net evidence status text → OfEvidence contents other evidence status text
-along contents evidence status text net other built too h = subst (λ (n : PlainNet). OfEvidence contents n evidence status text) (one_net contents net other built too) h
+whole : (contents : PlainDocument) (net : PlainNet) (evidence : List ℕ) (status : Status) (text : List ℕ) → OfEvidence contents net evidence status text → is_broken_off status ≡ false
+whole contents net evidence Done text h = refl
+whole contents net evidence EvidenceFault text h = refl
+whole contents net evidence status text h = absurd h
 
-some : (doc : List ℕ) (contents : PlainDocument) → Says doc contents → (bytes : List ℕ) → (status : Status) × (text : List ℕ) × OfVerify contents bytes status text
-some doc contents says bytes =
-    let (net, built, is, civil) = every_net contents (its_document doc contents says) in
-    elim (bundle_or_bad_line bytes) [
-      | inr bad ↦ (EvidenceFault, numbered (codes "evidence line ") bad.1, (net, built, inl (bad.0, bad.1, bad.2, refl)))
-      | inl e ↦ elim ((one_bundle_verdict net e.0).supported_or_refused (well_formed_claims e.0 bytes e.1)) [
-        | inl supported ↦ (Done, claim_lines contents e.0, (net, built, (e.0, e.1, supported, all_true net e.0 supported, refl)))
-        | inr refused ↦ (EvidenceFault, refusal_line refused.0, (net, built, inr (e.0, refused.0, e.1, refused.1, refl)))
-      ]
-    ]
+some : (contents : PlainDocument) (net : PlainNet) (bytes : List ℕ) → HasAnswer (OfEvidence contents net bytes)
+some contents net bytes = elim (bundle_or_bad_line bytes) [
+  | inr bad ↦ (EvidenceFault, numbered (codes "evidence line ") bad.1, inl (bad.0, bad.1, bad.2, refl))
+  | inl e ↦ elim ((one_bundle_verdict net e.0).supported_or_refused (well_formed_claims e.0 bytes e.1)) [
+    | inl supported ↦ (Done, claim_lines contents e.0, (e.0, e.1, supported, all_true net e.0 supported, refl))
+    | inr refused ↦ (EvidenceFault, refusal_line refused.0, inr (e.0, refused.0, e.1, refused.1, refl))
+  ]
+]
 
-whole_of : (contents : PlainDocument) (net : PlainNet) (evidence : List ℕ) (status : Status) (text : List ℕ) → OfEvidence contents net evidence status text → is_broken_off status ≡ false
-whole_of contents net evidence Done text h = refl
-whole_of contents net evidence EvidenceFault text h = refl
-whole_of contents net evidence status text h = absurd h
-
-pub verify_judged : IsAnsweredByDocument max_evidence OfVerify (λ contents bytes status. ⊥)
-verify_judged = record {
-  some = λ doc short contents says bytes few. some doc contents says bytes;
-  one_status = λ doc contents says evidence status other text line h k. same_status contents k.0 evidence status other text line (along contents evidence status text h.0 k.0 h.1 k.1 h.2) k.2;
-  whole = λ contents evidence status text h. whole_of contents h.0 evidence status text h.2;
-  one_text = λ doc contents says evidence status text line determined h k. same_text contents k.0 evidence status text line (along contents evidence status text h.0 k.0 h.1 k.1 h.2) k.2;
+of_evidence : (contents : PlainDocument) (net : PlainNet) (bytes : List ℕ) → IsAnswered ⊤ (OfEvidence contents net bytes) (λ status. ⊥)
+of_evidence contents net bytes = record {
+  some = λ given. some contents net bytes;
+  one_status = same_status contents net bytes;
+  whole = whole contents net bytes;
+  one_text = λ status text line determined. same_text contents net bytes status text line;
 }
+
+pub verify_judged : IsAnsweredByDocument OfVerify (λ contents bytes status. ⊥)
+verify_judged doc contents says bytes =
+    let (net, built, is, civil) = every_net contents (its_document doc contents says) in
+    by_the_one (IsNetOf contents) (one_net contents) (λ net. OfEvidence contents net bytes) net built (of_evidence contents net bytes)
 
 pub verify_answered : (name evidence : List ℕ) → AreAnswered (verify_rows name evidence) NeverFree
 verify_answered name evidence = judged_answered_once name (evidence_file evidence) OfVerify verify_judged

@@ -1,8 +1,9 @@
 -- A document has one net, and what is asked of it an answer: where no timeline fits a minimal clash.
-use Rattle.std.proofs.Common.{◌≡◌, ◌⊎◌, ℕ, ◌<◌, List, [], ◌∷◌, map, false, refl, sym, ap, subst, ◌∙◌, inl, inr, arith}
+use Rattle.std.proofs.Common.{◌≡◌, ◌⊎◌, ℕ, ◌<◌, List, [], ◌∷◌, map, refl, subst, inl, inr, arith}
+use Rattle.std.specs.Prelude.{⊤}
 use Rattle.std.specs.List.{Contains}
 use Rattle.std.proofs.lemmas.Option.{slice_get_within}
-use Rattle.answers.specs.Documents.{doc_file, document_rows, of_contents, of_its_contents}
+use Rattle.answers.specs.Documents.{Contents, doc_file, document_rows, of_contents, of_its_contents}
 use Rattle.answers.proofs.Answering.{ContentsAreAnswered}
 use Rattle.answers.proofs.Answered.{contents_answered}
 use Rattle.answers.proofs.Contents.{its_document}
@@ -23,13 +24,12 @@ use Rattle.net_core.proofs.StepLaws.{fits_fewer}
 use Rattle.tml_accept.specs.Acceptance.{Says}
 use Rattle.tml_accept.proofs.Phases.{one_document}
 use Rattle.tml_refs.specs.Documents.{IsNamed, PlainDocument}
-use Rattle.runs.specs.Answered.{AreAnswered}
 use Rattle.runs.specs.OneFile.{of_its_bytes}
-use Rattle.runs.specs.OneReply.{is_broken_off}
-use Rattle.runs.proofs.OneFile.{answered, freer}
 use Rattle.runs.specs.declared.status.Status.{Status}
 use Rattle.runs.specs.declared.status.Status.TheVariants.{Clash}
-use Rattle.net_answers.specs.Nets.{ClashIsFree, HasNet, NetAnswers, of_fitting, of_its_net, of_net}
+use Rattle.runs.proofs.Answering.{Answer, AreAnswered, IsAnswered, by_the_one, left_only, one_answer, recast, right_only}
+use Rattle.runs.proofs.OneFile.{answered, freer}
+use Rattle.net_answers.specs.Nets.{ClashIsFree, HasNet, IsClash, NetAnswers, of_fitting, of_net}
 use Rattle.net_answers.proofs.Answering.{NetsAreAnswered}
 use Rattle.net_answers.specs.Showing.{ShowsClash}
 use Rattle.net_answers.proofs.ClashProofs.{clash_well_formed, shows_clash}
@@ -71,64 +71,39 @@ fits_or_clash net is = elim (answered_net net is) [
 
 -- ---- what is asked of a net
 
--- of a net only the text of a clash is free
-abbrev OnlyClash : PlainDocument → Status → Type 0
-OnlyClash = of_its_net (λ contents net status. ⊥)
+-- a minimal clash is an answer, whose text is free
+clash_answered : (IsFree : Status → Type 0) (net : PlainNet) (text : List ℕ) → ShowsClash net text → IsFree Clash → IsAnswered ⊤ (IsClash net) IsFree
+clash_answered IsFree net text shown free = one_answer (IsClash net) IsFree Clash refl (λ status line h. h.0) (λ one other determined h k. absurd (determined free)) text (refl, shown)
 
--- one status, which is none that is broken off, and one text where that is not free
-module _ (Of : PlainNet → Status → List ℕ → Type 0) (net : PlainNet) where
-  pub fitting_status : ((status other : Status) (text line : List ℕ) → Of net status text → Of net other line → status ≡ other)
-      → (status other : Status) (text line : List ℕ) → of_fitting Of net status text → of_fitting Of net other line → status ≡ other
-  fitting_status one status other text line (inl h) (inl k) = h.0 ∙ sym k.0
-  fitting_status one status other text line (inl h) (inr k) = absurd (h.1.none k.0.0 k.0.1)
-  fitting_status one status other text line (inr h) (inl k) = absurd (k.1.none h.0.0 h.0.1)
-  fitting_status one status other text line (inr h) (inr k) = one status other text line h.1 k.1
+-- so is what is asked, where it is one once some timeline fits; and the text of a clash is free
+pub fitting_answered : (Of : PlainNet → Answer) (IsFree : Status → Type 0) (net : PlainNet) → IsNet net → (HasNoTimeline net → IsFree Clash) → (HasTimeline net → IsAnswered ⊤ (Of net) IsFree) → IsAnswered ⊤ (of_fitting Of net) IsFree
+fitting_answered Of IsFree net is free are = elim (fits_or_clash net is) [
+  | inl fits ↦ right_only (recast (are fits) (λ status text. HasTimeline net × Of net status text) (λ status text h. (fits, h)) (λ status text h. h.1)) (IsClash net) (λ status text h. h.1.none fits.0 fits.1)
+  | inr shown ↦ left_only (clash_answered IsFree net shown.0 shown.1 (free shown.1.none)) (λ status text. HasTimeline net × Of net status text) (λ status text h. shown.1.none h.0.0 h.0.1)
+]
 
-  pub fitting_whole : ((status : Status) (text : List ℕ) → Of net status text → is_broken_off status ≡ false) → (status : Status) (text : List ℕ) → of_fitting Of net status text → is_broken_off status ≡ false
-  fitting_whole whole status text (inl h) = ap is_broken_off h.0
-  fitting_whole whole status text (inr h) = whole status text h.1
+-- and so is what is asked of the net of an accepted document
+pub net_answered : (Of : NetAnswers) (IsFree : Status → Type 0) (doc : List ℕ) (contents : PlainDocument) → Says doc contents → ((net : PlainNet) → IsNetOf contents net → HasNoTimeline net → IsFree Clash)
+    → ((net : PlainNet) → IsNetOf contents net → IsNet net → HasTimeline net → IsAnswered ⊤ (Of contents net) IsFree) → IsAnswered ⊤ (of_net Of contents) IsFree
+net_answered Of IsFree doc contents says free are =
+    let has = its_net doc contents says in
+    by_the_one (IsNetOf contents) (one_net contents) (of_fitting (Of contents)) has.net has.built
+    (fitting_answered (Of contents) IsFree has.net has.is (free has.net has.built) (are has.net has.built has.is))
 
-  pub fitting_text : (status : Status) (text line : List ℕ) → (status ≡ Clash → ⊥) → (Of net status text → Of net status line → text ≡ line) → of_fitting Of net status text → of_fitting Of net status line → text ≡ line
-  fitting_text status text line other one (inl h) k = absurd (other h.0)
-  fitting_text status text line other one (inr h) (inl k) = absurd (other k.0)
-  fitting_text status text line other one (inr h) (inr k) = one h.1 k.1
+-- of no document but the text of a clash is free
+abbrev pub OnlyClash : PlainDocument → Status → Type 0
+OnlyClash contents status = status ≡ Clash
 
-module _ (Of : NetAnswers) (IsFree : PlainDocument → PlainNet → Status → Type 0) (are : NetsAreAnswered Of IsFree) where
-  -- an answer about one net is about the other
-  along : (contents : PlainDocument) (net other : PlainNet) (status : Status) (text : List ℕ) → IsNetOf contents net → IsNetOf contents other → of_fitting (Of contents) net status text → of_fitting (Of contents) other status text
-  along contents net other status text built too h = subst (λ (n : PlainNet). of_fitting (Of contents) n status text) (one_net contents net other built too) h
-
-  some : (doc : List ℕ) (contents : PlainDocument) → Says doc contents → (status : Status) × (text : List ℕ) × of_net Of contents status text
-  some doc contents says =
-      let has = its_net doc contents says in
-      elim (fits_or_clash has.net has.is) [
-        | inl fits ↦ let answer = are.some contents has.net has.built has.is fits in (answer.0, answer.1, (has.net, has.built, inr (fits, answer.2)))
-        | inr shown ↦ (Clash, shown.0, (has.net, has.built, inl (refl, shown.1)))
-      ]
-
-  one_status : (contents : PlainDocument) (status other : Status) (text line : List ℕ) → of_net Of contents status text → of_net Of contents other line → status ≡ other
-  one_status contents status other text line h k =
-      fitting_status (Of contents) k.0 (are.one_status contents k.0) status other text line (along contents h.0 k.0 status text h.1 k.1 h.2) k.2
-
-  one_text : (contents : PlainDocument) (status : Status) (text line : List ℕ) → (of_its_net IsFree contents status → ⊥) → of_net Of contents status text → of_net Of contents status line → text ≡ line
-  one_text contents status text line determined h k =
-      fitting_text (Of contents) k.0 status text line (λ clash. determined (inl clash))
-      (are.one_text contents k.0 status text line (λ free. determined (inr (k.0, k.1, free)))) (along contents h.0 k.0 status text h.1 k.1 h.2) k.2
-
-  pub net_answered : ContentsAreAnswered (of_net Of) (of_its_net IsFree)
-  net_answered = record {
-    some = some;
-    one_status = λ doc contents says. one_status contents;
-    whole = λ contents status text h. fitting_whole (Of contents) h.0 (are.whole contents h.0) status text h.2;
-    one_text = λ doc contents says. one_text contents;
-  }
-
--- the rows of a command that is asked of a net, of which all texts but that of a clash are determined
-pub net_rows_answered : (Of : NetAnswers) → NetsAreAnswered Of (λ contents net status. ⊥) → (name : List ℕ) → AreAnswered (document_rows (of_net Of) name) ClashIsFree
-net_rows_answered Of are name = freer (document_rows (of_net Of) name) (of_its_bytes (of_its_contents OnlyClash)) ClashIsFree clash
-    (answered (doc_file name) (of_contents (of_net Of)) (of_its_contents OnlyClash) (contents_answered (of_net Of) OnlyClash (net_answered Of (λ contents net status. ⊥) are)))
+-- the rows of a command that is asked of a document, of which all texts but that of a clash are determined
+pub but_clashes_answered : (Of : Contents) → ContentsAreAnswered Of OnlyClash → (name : List ℕ) → AreAnswered (document_rows Of name) ClashIsFree
+but_clashes_answered Of are name = freer (document_rows Of name) (of_its_bytes (of_its_contents OnlyClash)) ClashIsFree clash
+    (answered (doc_file name) (of_contents Of) (of_its_contents OnlyClash) (contents_answered Of OnlyClash are))
   where
     clash : (contents : List (List ℕ)) (status : Status) → of_its_bytes (of_its_contents OnlyClash) contents status → status ≡ Clash
-    clash (doc ∷ []) status (contents, says, inl is) = is
-    clash (doc ∷ []) status (contents, says, inr free) = absurd free.2
+    clash (doc ∷ []) status free = free.2
     clash contents status free = absurd free
+
+-- the rows of one that is asked of its net
+pub net_rows_answered : (Of : NetAnswers) → NetsAreAnswered Of → (name : List ℕ) → AreAnswered (document_rows (of_net Of) name) ClashIsFree
+net_rows_answered Of are name = but_clashes_answered (of_net Of) (λ doc contents says.
+    net_answered Of (λ status. status ≡ Clash) doc contents says (λ net built none. refl) (λ net built is fits. are contents net is fits)) name

@@ -6,7 +6,7 @@ use Rattle.net_core.specs.Entailment.{HasTimeline}
 use Rattle.net_core.specs.Nets.{PlainNet}
 use Rattle.tml_accept.specs.Acceptance.{Says}
 use Rattle.tml_refs.specs.Documents.{PlainDocument}
-use Rattle.runs.specs.Answered.{Freedom}
+use Rattle.runs.specs.Rows.{Freedom}
 use Rattle.runs.specs.declared.status.Status.{Status}
 use Rattle.runs.specs.declared.status.Status.TheVariants.{Clash}
 use Rattle.net_answers.specs.Showing.{ShowsClash}
@@ -30,10 +30,6 @@ of_fitting Of net status text = IsClash net status text ⊎ (HasTimeline net × 
 -- the same of the net of a document
 abbrev pub of_net : NetAnswers → Contents
 of_net Of contents status text = (net : PlainNet) × IsNetOf contents net × of_fitting (Of contents) net status text
-
--- of which net the text of an answer is not determined: which clash is printed is free
-abbrev pub of_its_net : (PlainDocument → PlainNet → Status → Type 0) → PlainDocument → Status → Type 0
-of_its_net IsFree contents status = (status ≡ Clash) ⊎ ((net : PlainNet) × IsNetOf contents net × IsFree contents net status)
 
 -- the text of a clash is free, whatever was read
 abbrev pub ClashIsFree : Freedom

@@ -1,5 +1,5 @@
 -- What the closure of a net says of orders, and counterexamples.
-use Rattle.std.proofs.Common.{◌≡◌, ℕ, ◌<◌, ◌≤◌, Bool, true, false, List, length, Some, None, sym, subst, ◌∙◌, arith}
+use Rattle.std.proofs.Common.{◌≡◌, ℕ, ◌<◌, ◌≤◌, false, List, length, Some, None, sym, subst, ◌∙◌, arith}
 use Rattle.std.proofs.lemmas.List.Elements.{All-from_recursion, All-get_or}
 use Rattle.net_core.specs.Atoms.{IsInRange, Satisfies, atoms_of}
 use Rattle.net_core.specs.Firsts.{IsFirst}
@@ -11,14 +11,11 @@ use Rattle.net_core.specs.declared.atom.Atom.{Atom}
 use Rattle.net_core.specs.declared.rels.Rel.{Rel}
 use Rattle.net_core.proofs.AtomLaws.{atoms_say_the_relation}
 use Rattle.net_core.proofs.RankLaws.{even_length, ranks_again}
-use Rattle.order_closure.specs.Cells.{order, strength}
-use Rattle.order_closure.specs.Tables.{AreInRange, GivesAtom, Keeps, Table, cell_at}
+use Rattle.order_closure.specs.Tables.{AreInRange, GivesAtom, Keeps, Table}
 use Rattle.net_core.specs.Least.{IsLeast}
-use Rattle.order_closure.specs.declared.cell.Cell.{Cell}
-use Rattle.order_closure.proofs.Central.{at_least_weak, order_says}
 use Rattle.clash.specs.Closures.{IsClosureOf}
 use Rattle.clash.proofs.Entailing.{given_holds, held_given}
-use Rattle.net_core.specs.Entailment.{Always, AlwaysHolds, AreIntervals}
+use Rattle.net_core.specs.Entailment.{AlwaysHolds, AreIntervals}
 use Rattle.net_core.specs.Limits.{max_printed}
 use Rattle.evidence_check.specs.Refusals.{atom_at}
 use Rattle.evidence_check.specs.Supported.{IsFalse, IsSupported}

@@ -1,11 +1,11 @@
 -- Each drill has one answer.
 use Rattle.std.proofs.Common.{◌≡◌, ◌<◌, ℕ, List, [], ◌∷◌, false, length, refl, sym, ap, subst, ◌∙◌, Some}
-use Rattle.runs.specs.Answered.{AreAnswered, NeverFree}
 use Rattle.runs.specs.EveryReply.{HasNext}
 use Rattle.runs.specs.OneReply.{Agree, HasOneText, is_broken_off}
-use Rattle.runs.specs.Rows.{File, Next, answers, reads}
+use Rattle.runs.specs.Rows.{File, NeverFree, Next, answers, reads}
 use Rattle.runs.specs.declared.status.Status.{Status}
 use Rattle.runs.specs.declared.status.Status.TheVariants.{Done}
+use Rattle.runs.proofs.Answering.{AreAnswered}
 use Rattle.order_answers.specs.Drill.{OfDrill, drill_number, drill_rows}
 use Rattle.order_answers.proofs.DrillNumbers.{drill_in_range}
 use Rattle.order_answers.proofs.Drills.{one_summary}

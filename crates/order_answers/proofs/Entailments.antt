@@ -1,15 +1,10 @@
 -- What the closure of a net entails is what follows from the net.
-use Rattle.std.proofs.Common.{◌≡◌, ◌↔◌, ℕ, ◌<◌, List, [], ◌∷◌, arith}
-use Rattle.std.specs.List.{AllByRecursion, flat_map}
-use Rattle.std.proofs.lemmas.List.Elements.{All-from_recursion, All-weaker, recursion_from_All}
-use Rattle.net_core.specs.Atoms.{IsInRange, Satisfies, atoms_of}
-use Rattle.net_core.specs.Fits.{Fits}
-use Rattle.net_core.specs.Nets.{PlainNet, intervals, points}
-use Rattle.net_core.specs.Relations.{Timeline}
-use Rattle.net_core.specs.declared.atom.Atom.{Atom}
+use Rattle.std.proofs.Common.{◌≡◌, ◌↔◌, ℕ, ◌<◌, List, arith}
+use Rattle.std.specs.List.{flat_map}
+use Rattle.std.proofs.lemmas.List.Elements.{All-weaker}
+use Rattle.net_core.specs.Nets.{PlainNet, intervals}
 use Rattle.net_core.specs.declared.rels.Rel.{Rel}
-use Rattle.net_core.proofs.AtomLaws.{atoms_in_range, atoms_say_the_relation}
-use Rattle.order_closure.specs.Tables.{GivesAtom, Table}
+use Rattle.order_closure.specs.Tables.{Table}
 use Rattle.clash.specs.Closures.{IsClosureOf}
 use Rattle.derive_rel.specs.Entailed.{AreRows, TableEntails, IsRow}
 use Rattle.derive_rel.specs.declared.all_rows.Row.{Row}

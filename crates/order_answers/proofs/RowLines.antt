@@ -1,7 +1,7 @@
 -- The line of a relation, by the names of all intervals.
-use Rattle.std.proofs.Common.{◌≡◌, ◌++◌, ◌<◌, ℕ, List, [], codes, length, get_or, map, append_assoc, ap, sym, ◌∙◌, arith}
+use Rattle.std.proofs.Common.{◌≡◌, ◌++◌, ◌<◌, ℕ, List, [], codes, length, get_or, append_assoc, ap, sym, ◌∙◌, arith}
 use Rattle.std.proofs.lemmas.List.{length-map}
-use Rattle.answers.specs.Lines.{name_at, related}
+use Rattle.answers.specs.Lines.{related}
 use Rattle.answers.specs.Names.{AreNames}
 use Rattle.answers.proofs.NamedIntervals.{name_there}
 use Rattle.derive_rel.specs.declared.all_rows.Row.{Row}

@@ -25,9 +25,8 @@ use Rattle.net_core.specs.declared.step.Step.{Step}
 use Rattle.order_closure.specs.Tables.{GivesAtom, Keeps, Table}
 use Rattle.net_core.specs.Least.{IsLeast}
 use Rattle.tml_refs.specs.Documents.{PlainDocument, IsNamed}
-use Rattle.runs.specs.Answered.{Freedom}
 use Rattle.runs.specs.OneFile.{of_its_bytes}
-use Rattle.runs.specs.Rows.{Rows}
+use Rattle.runs.specs.Rows.{Freedom, Rows}
 use Rattle.runs.specs.declared.status.Status.{Status}
 use Rattle.runs.specs.declared.status.Status.TheVariants.{Clash, Done, UnknownName}
 

@@ -1,5 +1,5 @@
 -- A net has one matrix.
-use Rattle.std.proofs.Common.{◌≡◌, ◌↔◌, ℕ, ◌+◌, ◌*◌, List, false, refl, sym, ◌∙◌, arith}
+use Rattle.std.proofs.Common.{◌≡◌, ◌↔◌, ℕ, ◌+◌, ◌*◌, List, refl, sym, ◌∙◌, arith}
 use Rattle.clash.specs.Closures.{IsClosureOf}
 use Rattle.clash.proofs.Answered.{closed_net}
 use Rattle.net_answers.specs.Nets.{ClashIsFree}
@@ -16,10 +16,9 @@ use Rattle.possible_answers.proofs.Lines.{matrices_agree}
 use Rattle.possible_answers.proofs.Tests.{can_of, can_of_told}
 use Rattle.tml_possible.specs.Possible.{CanBe, StartFirst}
 use Rattle.tml_refs.specs.Documents.{PlainDocument}
-use Rattle.runs.specs.Answered.{AreAnswered}
-use Rattle.runs.specs.OneReply.{is_broken_off}
 use Rattle.runs.specs.declared.status.Status.{Status}
-use Rattle.runs.specs.declared.status.Status.TheVariants.{Done}
+use Rattle.runs.specs.declared.status.Status.TheVariants.{Clash, Done}
+use Rattle.runs.proofs.Answering.{AreAnswered, one_answer}
 
 -- a test by closed cells which the timelines that fit a net keep tells what can be
 pub tells_net : (net : PlainNet) (n : ℕ) (cell : ℕ → ℕ → Cell) (closed : AreClosed n cell) → n ≡ points net → ((t : Timeline) → AreCellsKept n cell t ↔ Fits net t) → TellsNet net (can_of n cell closed)
@@ -44,19 +43,13 @@ shows_matrix contents net table text closure closed is =
     let can = can_of table.points (cell_at table) closed in
     (can, tells_net net table.points (cell_at table) closed closure.size closure.keeps, is can (tells_table table closed))
 
-one_status : (contents : PlainDocument) (net : PlainNet) (status other : Status) (text line : List ℕ) → OfMatrix contents net status text → OfMatrix contents net other line → status ≡ other
-one_status contents net Done Done text line h k = refl
-one_status contents net Done other text line h k = absurd k
-one_status contents net status other text line h k = absurd h
+done : (contents : PlainDocument) (net : PlainNet) (status : Status) (text : List ℕ) → OfMatrix contents net status text → status ≡ Done
+done contents net Done text h = refl
+done contents net status text h = absurd h
 
-whole : (contents : PlainDocument) (net : PlainNet) (status : Status) (text : List ℕ) → OfMatrix contents net status text → is_broken_off status ≡ false
-whole contents net Done text h = refl
-whole contents net status text h = absurd h
-
-one_text : (contents : PlainDocument) (net : PlainNet) (status : Status) (text line : List ℕ) → OfMatrix contents net status text → OfMatrix contents net status line → text ≡ line
-one_text contents net Done text line (can, tells, is) (other, too, are) =
+one_text : (contents : PlainDocument) (net : PlainNet) (text line : List ℕ) → OfMatrix contents net Done text → OfMatrix contents net Done line → text ≡ line
+one_text contents net text line (can, tells, is) (other, too, are) =
     is ∙ matrices_agree contents.intervals (intervals net) (λ a b r. CanBe net a r b) can other (λ a b la lb. tells a b (la, lb)) (λ a b la lb. too a b (la, lb)) ∙ sym are
-one_text contents net status text line h k = absurd h
 
 some_matrix : (contents : PlainDocument) (net : PlainNet) → IsNet net → HasTimeline net → (text : List ℕ) × OfMatrix contents net Done text
 some_matrix contents net is fits =
@@ -64,13 +57,10 @@ some_matrix contents net is fits =
     let can = can_of (points net) cell closed in
     (matrix_lines contents.intervals (intervals net) can 0, (can, tells_net net (points net) cell closed refl same, refl))
 
-matrices : NetsAreAnswered OfMatrix (λ contents net status. ⊥)
-matrices = record {
-  some = λ contents net built is fits. let found = some_matrix contents net is fits in (Done, found.0, found.1);
-  one_status = one_status;
-  whole = whole;
-  one_text = λ contents net status text line determined h k. one_text contents net status text line h k;
-}
+matrices : NetsAreAnswered OfMatrix
+matrices contents net is fits =
+    let found = some_matrix contents net is fits in
+    one_answer (OfMatrix contents net) (λ status. status ≡ Clash) Done refl (done contents net) (λ text line determined h k. one_text contents net text line h k) found.0 found.1
 
 pub matrix_answered : (name : List ℕ) → AreAnswered (matrix_rows name) ClashIsFree
 matrix_answered name = net_rows_answered OfMatrix matrices name

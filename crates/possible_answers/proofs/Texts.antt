@@ -1,14 +1,12 @@
 -- Texts of sets of base relations, each of which is made once.
-use Rattle.std.proofs.Common.{◌≡◌, ◌-◌, ◌<◌, ◌≤◌, ℕ, List, [], ◌∷◌, ◌++◌, length, set, replicate, take, drop, refl, sym, ap, subst, ◌∙◌, arith, inl, inr, codes, length-append, Result, Ok, Err, OnOk, is_ok, if◌then◌else◌}
-use Rattle.std.specs.List.{filter, flat_map}
+use Rattle.std.proofs.Common.{◌≡◌, ◌-◌, ◌<◌, ◌≤◌, ℕ, List, [], ◌∷◌, ◌++◌, length, set, replicate, take, drop, refl, sym, ap, subst, ◌∙◌, arith, inl, inr, length-append, Result, Ok, Err, OnOk, is_ok, if◌then◌else◌}
 use Rattle.std.proofs.lemmas.Bool.{cases_eq}
 use Rattle.std.proofs.lemmas.List.{drop-append-le, get_or-replicate, get_or-set_other, get_or-set_same, length-replicate, length-set, length-drop, take-append-le, take_all}
-use Rattle.possible_answers.specs.Matrix.{rel_word, words_of}
+use Rattle.possible_answers.specs.Matrix.{words_of}
 use Rattle.possible_answers.specs.SetTexts.{AreTexts, HasSetText, part, place_at}
 use Rattle.possible_answers.specs.declared.set_texts.Place.{Place}
 use Rattle.tml_possible.specs.Sets.{has, number}
 use Rattle.tml_possible.specs.declared.base_set.BaseSet.{BaseSet}
-use Rattle.net_core.specs.BaseRelations.{base_rels}
 use Rattle.net_core.specs.declared.rels.Rel.{Rel}
 use Rattle.tml_possible.proofs.Bases.{has_number}
 
@@ -23,10 +21,6 @@ no_texts bytes places e = record {
       let at : place_at places k ≡ nowhere = ap (λ (ps : List Place). place_at ps k) e ∙ get_or-replicate 8192 k nowhere nowhere lt in
       subst (λ (p : Place). HasSetText bytes p k) (sym at) (record { order = omega arith; within = omega arith; words = λ less. absurd (omega arith) });
 }
-
--- words end in the end of a line, so there are some
-pub some_words : (set : BaseSet) → 0 < length (words_of (has set))
-some_words set = omega (arith, length-append (flat_map rel_word (filter (has set) base_rels)) (codes "\n"))
 
 -- what stands at a place stays where bytes are appended
 kept_part : (bytes more : List ℕ) (place : Place) → place.start ≤ place.end → place.end ≤ length bytes → part (bytes ++ more) place ≡ part bytes place
@@ -80,14 +74,6 @@ made_texts bytes places s texts small = record {
 
     new : Place
     new = record { start = length bytes; end = length (bytes ++ words) }
-
--- its place is not empty
-pub made_some : (bytes : List ℕ) (places : List Place) (s : BaseSet) → AreTexts bytes places → number s < 8192
-    → let place = place_at (set places (number s) (record { start = length bytes; end = length (bytes ++ words_of (has s)) })) (number s) in place.start < place.end
-made_some bytes places s texts small =
-    let new : Place = record { start = length bytes; end = length (bytes ++ words_of (has s)) } in
-    subst (λ (p : Place). p.start < p.end) (sym (get_or-set_same places (number s) new nowhere (omega (arith, small, texts.size))))
-    (omega (arith, some_words s, length-append bytes (words_of (has s))))
 
 -- the words of a set by its place
 pub words_placed : (bytes : List ℕ) (places : List Place) (s : BaseSet) → AreTexts bytes places → number s < 8192 → (let place = place_at places (number s) in place.start < place.end)

@@ -1,29 +1,103 @@
--- What the answers of a command have, so that its rows are answered.
-use Rattle.std.specs.Prelude.{◌≡◌, ◌⊎◌, ◌≤◌, false, ℕ, List, length}
+-- What the rows of a command have, and what its answers have, so that its rows do.
+use Rattle.std.proofs.Common.{◌≡◌, ◌⊎◌, ◌≤◌, ◌<◌, ℕ, false, List, length, sym, ap, subst, ◌∙◌, inl, inr}
+use Rattle.std.specs.Prelude.{⊤}
 use Rattle.runs.specs.declared.status.Status.{Status}
+use Rattle.runs.specs.EveryReply.{HasNext}
 use Rattle.runs.specs.OneFile.{Answers}
-use Rattle.runs.specs.OneReply.{is_broken_off}
+use Rattle.runs.specs.OneReply.{HasOneNext, HasOneText, is_broken_off}
+use Rattle.runs.specs.Rows.{File, Freedom, Rows, answers, reads}
 use Rattle.runs.specs.TwoFiles.{IsPassed, Judging}
 
--- Contents within a limit have an answer, with one status, which is none that is broken off; and with one text, where that is not free.
-pub record IsAnswered (limit : ℕ) (Of : Answers) (IsFree : List ℕ → Status → Type 0) : Type 0 where
-  pub some : (bytes : List ℕ) → length bytes ≤ limit → (status : Status) × (text : List ℕ) × Of bytes status text
-  pub one_status : (bytes : List ℕ) (status other : Status) (text line : List ℕ) → Of bytes status text → Of bytes other line → status ≡ other
-  pub whole : (bytes : List ℕ) (status : Status) (text : List ℕ) → Of bytes status text → is_broken_off status ≡ false
-  pub one_text : (bytes : List ℕ) (status : Status) (text line : List ℕ) → (IsFree bytes status → ⊥) → Of bytes status text → Of bytes status line → text ≡ line
+-- After what was read one thing comes next, and something does; at most this number of files are read; no answer is broken off; and an answer has one text where it is not free.
+pub record AreAnswered (rows : Rows) (IsFree : Freedom) : Type 0 where
+  pub one_next : HasOneNext rows
+  pub next : HasNext rows
+  pub most : ℕ
+  pub few : (contents : List (List ℕ)) (file : File) → rows contents (reads file) → length contents < most
+  pub whole : (contents : List (List ℕ)) (status : Status) (text : List ℕ) → rows contents (answers status text) → is_broken_off status ≡ false
+  pub one_text : (contents : List (List ℕ)) (status : Status) → (IsFree contents status → ⊥) → HasOneText rows contents status
 
--- A first file within its limit says something or is refused, and not both. It says one thing, or is refused with one status, which is none that is broken off, and one text.
+-- ---- answers
+
+-- which texts are an answer, with which status
+abbrev pub Answer : Type 1
+Answer = Status → List ℕ → Type 0
+
+abbrev pub HasAnswer : Answer → Type 0
+HasAnswer Of = (status : Status) × (text : List ℕ) × Of status text
+
+-- There is an answer, where this is given; it has one status, which is none that is broken off, and one text where that is not free.
+pub record IsAnswered (IsGiven : Type 0) (Of : Answer) (IsFree : Status → Type 0) : Type 0 where
+  pub some : IsGiven → HasAnswer Of
+  pub one_status : (status other : Status) (text line : List ℕ) → Of status text → Of other line → status ≡ other
+  pub whole : (status : Status) (text : List ℕ) → Of status text → is_broken_off status ≡ false
+  pub one_text : (status : Status) (text line : List ℕ) → (IsFree status → ⊥) → Of status text → Of status line → text ≡ line
+
+-- A first file within its limit says something or is refused, and not both. It says one thing, or its refusal is one answer.
 pub record IsDecisive {C : Type 0} (limit : ℕ) (judging : Judging C) : Type 0 where
-  pub some : (one : List ℕ) → length one ≤ limit → IsPassed judging one ⊎ ((status : Status) × (text : List ℕ) × judging.IsRefused one status text)
+  pub some : (one : List ℕ) → length one ≤ limit → IsPassed judging one ⊎ HasAnswer (judging.IsRefused one)
   pub not_both : (one : List ℕ) (status : Status) (text : List ℕ) → IsPassed judging one → judging.IsRefused one status text → ⊥
   pub one_said : (one : List ℕ) (c d : C) → judging.Says one c → judging.Says one d → c ≡ d
-  pub one_status : (one : List ℕ) (status other : Status) (text line : List ℕ) → judging.IsRefused one status text → judging.IsRefused one other line → status ≡ other
-  pub whole : (one : List ℕ) (status : Status) (text : List ℕ) → judging.IsRefused one status text → is_broken_off status ≡ false
-  pub one_text : (one : List ℕ) (status : Status) (text line : List ℕ) → judging.IsRefused one status text → judging.IsRefused one status line → text ≡ line
+  pub refusal : (one : List ℕ) → IsAnswered (HasAnswer (judging.IsRefused one)) (judging.IsRefused one) (λ status. ⊥)
 
--- Two files within their limits have an answer, by what the first one says: one status, which is none that is broken off; and one text, where that is not free.
-pub record IsAnsweredAfter {C : Type 0} (judging : Judging C) (first second : ℕ) (Of : C → Answers) (IsFree : C → List ℕ → Status → Type 0) : Type 0 where
-  pub some : (one : List ℕ) → length one ≤ first → (c : C) → judging.Says one c → (other : List ℕ) → length other ≤ second → (status : Status) × (text : List ℕ) × Of c other status text
-  pub one_status : (one : List ℕ) (c : C) → judging.Says one c → (other : List ℕ) (status found : Status) (text line : List ℕ) → Of c other status text → Of c other found line → status ≡ found
-  pub whole : (c : C) (other : List ℕ) (status : Status) (text : List ℕ) → Of c other status text → is_broken_off status ≡ false
-  pub one_text : (one : List ℕ) (c : C) → judging.Says one c → (other : List ℕ) (status : Status) (text line : List ℕ) → (IsFree c other status → ⊥) → Of c other status text → Of c other status line → text ≡ line
+-- what a first file says has an answer for each second file, where both are within their limits
+abbrev pub IsAnsweredAfter : {C : Type 0} → Judging C → ℕ → ℕ → (C → Answers) → (C → List ℕ → Status → Type 0) → Type 0
+IsAnsweredAfter {C} judging first second Of IsFree =
+    (one : List ℕ) (c : C) → judging.Says one c → (other : List ℕ) → IsAnswered ((length one ≤ first) × (length other ≤ second)) (Of c other) (IsFree c other)
+
+-- ---- how answers are put together
+
+left : {A B : Type 0} → (B → ⊥) → A ⊎ B → A
+left none (inl a) = a
+left none (inr b) = absurd (none b)
+
+right : {A B : Type 0} → (A → ⊥) → A ⊎ B → B
+right none (inl a) = absurd (none a)
+right none (inr b) = b
+
+module _ {IsGiven : Type 0} {Of : Answer} {IsFree : Status → Type 0} (are : IsAnswered IsGiven Of IsFree) where
+  -- the same answers, said otherwise
+  pub recast : (Same : Answer) → ((status : Status) (text : List ℕ) → Of status text → Same status text) → ((status : Status) (text : List ℕ) → Same status text → Of status text) → IsAnswered IsGiven Same IsFree
+  recast Same there back = record {
+    some = λ given. let answer = are.some given in (answer.0, answer.1, there answer.0 answer.1 answer.2);
+    one_status = λ status other text line h k. are.one_status status other text line (back status text h) (back other line k);
+    whole = λ status text h. are.whole status text (back status text h);
+    one_text = λ status text line determined h k. are.one_text status text line determined (back status text h) (back status line k);
+  }
+
+  -- of which more is free
+  pub freed : (Free : Status → Type 0) → ((status : Status) → IsFree status → Free status) → IsAnswered IsGiven Of Free
+  freed Free into = record {
+    some = are.some;
+    one_status = are.one_status;
+    whole = are.whole;
+    one_text = λ status text line determined. are.one_text status text line (λ free. determined (into status free));
+  }
+
+  -- where more is given
+  pub given_by : (More : Type 0) → (More → IsGiven) → IsAnswered More Of IsFree
+  given_by More gives = record { some = λ more. are.some (gives more); one_status = are.one_status; whole = are.whole; one_text = are.one_text }
+
+  -- beside others that there are not
+  pub left_only : (Other : Answer) → ((status : Status) (text : List ℕ) → Other status text → ⊥) → IsAnswered IsGiven (λ status text. Of status text ⊎ Other status text) IsFree
+  left_only Other none = recast (λ status text. Of status text ⊎ Other status text) (λ status text h. inl h) (λ status text h. left (none status text) h)
+
+  pub right_only : (Other : Answer) → ((status : Status) (text : List ℕ) → Other status text → ⊥) → IsAnswered IsGiven (λ status text. Other status text ⊎ Of status text) IsFree
+  right_only Other none = recast (λ status text. Other status text ⊎ Of status text) (λ status text h. inr h) (λ status text h. right (none status text) h)
+
+-- by the one thing that is so
+pub by_the_one : {C IsGiven : Type 0} {IsFree : Status → Type 0} (Is : C → Type 0) → ((c d : C) → Is c → Is d → c ≡ d) → (Of : C → Answer) (c : C) → Is c → IsAnswered IsGiven (Of c) IsFree
+    → IsAnswered IsGiven (λ status text. (d : C) × Is d × Of d status text) IsFree
+by_the_one {C} Is one Of c is are = recast are (λ status text. (d : C) × Is d × Of d status text) (λ status text h. (c, is, h)) (λ status text h. subst (λ (d : C). Of d status text) (one h.0 c h.1 is) h.2)
+
+-- by one text with one status
+pub one_answer : (Of : Answer) (IsFree : Status → Type 0) (is : Status) → is_broken_off is ≡ false → ((status : Status) (text : List ℕ) → Of status text → status ≡ is)
+    → ((text line : List ℕ) → (IsFree is → ⊥) → Of is text → Of is line → text ≡ line) → (text : List ℕ) → Of is text → IsAnswered ⊤ Of IsFree
+one_answer Of IsFree is whole only same answer shown = record {
+  some = λ given. (is, answer, shown);
+  one_status = λ status other text line h k. only status text h ∙ sym (only other line k);
+  whole = λ status text h. ap is_broken_off (only status text h) ∙ whole;
+  one_text = λ status text line determined h k.
+      let is_it = only status text h in
+      same text line (λ free. determined (subst IsFree (sym is_it) free)) (subst (λ (s : Status). Of s text) is_it h) (subst (λ (s : Status). Of s line) is_it k);
+}

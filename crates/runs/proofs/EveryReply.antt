@@ -5,12 +5,12 @@ use Rattle.std.specs.Prelude.{IsSome, is_some}
 use Rattle.tml_io.specs.Files.{Files, IsThere, held}
 use Rattle.runs.specs.declared.status.Status.{Status}
 use Rattle.runs.specs.declared.status.Status.TheVariants.{TooLong}
-use Rattle.runs.specs.Answered.{AreAnswered, Freedom}
 use Rattle.runs.specs.EveryReply.{HasExactlyOneReply, HasNext}
 use Rattle.runs.specs.OneReply.{is_broken_off}
 use Rattle.runs.specs.Reading.{AllThere, ReadsWhole}
 use Rattle.runs.specs.Replies.{Replies, too_long}
-use Rattle.runs.specs.Rows.{File, Next, Rows, answers, once_read, reads}
+use Rattle.runs.specs.Rows.{File, Freedom, Next, Rows, answers, once_read, reads}
+use Rattle.runs.proofs.Answering.{AreAnswered}
 use Rattle.runs.proofs.OneReply.{one_reply}
 
 -- over these files there is a reply that is not broken off

@@ -1,15 +1,15 @@
 -- A file that is not there is neither read whole nor too long, so what needs it is broken off.
-use Rattle.std.proofs.Common.{◌≡◌, ◌⊎◌, ℕ, Bool, true, false, List, [], ◌∷◌, refl, sym, ap, subst, Option, Some, inl, inr, arith}
+use Rattle.std.proofs.Common.{◌≡◌, ℕ, Bool, true, false, List, [], ◌∷◌, refl, sym, subst, Option, Some, inl, inr}
 use Rattle.std.specs.Prelude.{IsSome}
 use Rattle.tml_io.specs.Files.{Files, HasContents, IsThere, held}
 use Rattle.runs.specs.declared.status.Status.{Status}
 use Rattle.runs.specs.declared.status.Status.TheVariants.{ReadFault}
-use Rattle.runs.specs.Answered.{AreAnswered, Freedom}
 use Rattle.runs.specs.Missing.{MissingBreaksOff, ReadFaultHasFile}
 use Rattle.runs.specs.OneReply.{HasOneNext, is_broken_off}
 use Rattle.runs.specs.Reading.{ReadsWhole, Reading}
 use Rattle.runs.specs.Replies.{RepliesAfter}
-use Rattle.runs.specs.Rows.{File, Rows, answers, reads, once_read}
+use Rattle.runs.specs.Rows.{File, Freedom, Rows, answers, once_read, reads}
+use Rattle.runs.proofs.Answering.{AreAnswered}
 use Rattle.runs.proofs.OneReply.{EndsWhole, ends_whole, not_yet, one_held}
 
 -- a name that holds something is there

@@ -1,32 +1,29 @@
 -- What the rows of one file have, by what its contents are answered.
 use Rattle.std.proofs.Common.{◌≡◌, ◌⊎◌, ◌<◌, ◌≤◌, ℕ, ◌+◌, List, [], ◌∷◌, false, length, refl, sym, subst, ◌∙◌, inl, inr, arith, Some}
+use Rattle.std.specs.Prelude.{⊤}
 use Rattle.tml_io.specs.Files.{Files, held}
 use Rattle.runs.specs.declared.status.Status.{Status}
 use Rattle.runs.specs.declared.status.Status.TheVariants.{TooLong}
-use Rattle.runs.specs.Answered.{AreAnswered, Freedom, NeverFree}
 use Rattle.runs.specs.EveryReply.{HasNext}
 use Rattle.runs.specs.OneFile.{Answers, of_its_bytes, of_one_file}
-use Rattle.runs.proofs.Answering.{IsAnswered}
+use Rattle.runs.proofs.Answering.{AreAnswered, IsAnswered}
 use Rattle.runs.specs.OneReply.{Agree, HasOneText, is_broken_off}
 use Rattle.runs.specs.Reading.{ReadsWhole, Reading, total}
 use Rattle.runs.specs.Replies.{Replies}
-use Rattle.runs.specs.Rows.{File, Next, Rows, answers, reads}
+use Rattle.runs.specs.Rows.{File, Freedom, NeverFree, Next, Rows, answers, reads}
 use Rattle.runs.proofs.OneReply.{EndsWhole, ends_whole, not_both, one_held}
 
-module _ (file : File) (Of : Answers) (IsFree : List ℕ → Status → Type 0) (are : IsAnswered file.limit Of IsFree) where
+module _ (file : File) (Of : Answers) (IsFree : List ℕ → Status → Type 0) (are : (bytes : List ℕ) → IsAnswered ⊤ (Of bytes) (IsFree bytes)) where
   agree : (contents : List (List ℕ)) (next other : Next) → of_one_file file Of contents next → of_one_file file Of contents other → Agree next other
   agree [] (reads a) (reads b) h k = h ∙ sym k
   agree [] (reads a) other h k = absurd k
-  agree (bytes ∷ []) (answers status text) (answers other line) h k = are.one_status bytes status other text line h k
+  agree (bytes ∷ []) (answers status text) (answers other line) h k = (are bytes).one_status status other text line h k
   agree (bytes ∷ []) (answers status text) other h k = absurd k
   agree contents next other h k = absurd h
 
   every_next : HasNext (of_one_file file Of)
   every_next [] reading = (reads file, refl)
-  every_next (bytes ∷ []) (other, same, gives, rest) =
-      let short = subst (λ (f : File). length bytes ≤ f.limit) same gives.1 in
-      let answer = are.some bytes short in
-      (answers answer.0 answer.1, answer.2)
+  every_next (bytes ∷ []) reading = let answer = (are bytes).some tt in (answers answer.0 answer.1, answer.2)
   every_next (bytes ∷ more ∷ rest) reading = absurd reading.3.1
 
   few : (contents : List (List ℕ)) (other : File) → of_one_file file Of contents (reads other) → length contents < 1
@@ -35,11 +32,11 @@ module _ (file : File) (Of : Answers) (IsFree : List ℕ → Status → Type 0) 
   few (bytes ∷ more ∷ rest) other row = absurd row
 
   whole : (contents : List (List ℕ)) (status : Status) (text : List ℕ) → of_one_file file Of contents (answers status text) → is_broken_off status ≡ false
-  whole (bytes ∷ []) status text row = are.whole bytes status text row
+  whole (bytes ∷ []) status text row = (are bytes).whole status text row
   whole contents status text row = absurd row
 
   line_of : (contents : List (List ℕ)) (status : Status) → (of_its_bytes IsFree contents status → ⊥) → HasOneText (of_one_file file Of) contents status
-  line_of (bytes ∷ []) status determined text line h k = are.one_text bytes status text line determined h k
+  line_of (bytes ∷ []) status determined text line h k = (are bytes).one_text status text line determined h k
   line_of contents status determined text line h k = absurd h
 
   pub answered : AreAnswered (of_one_file file Of) (of_its_bytes IsFree)
@@ -57,7 +54,7 @@ freer rows A B into are = record {
 }
 
 -- the rows of one file of which every text is determined
-pub answered_once : (file : File) (Of : Answers) → IsAnswered file.limit Of (λ bytes status. ⊥) → AreAnswered (of_one_file file Of) NeverFree
+pub answered_once : (file : File) (Of : Answers) → ((bytes : List ℕ) → IsAnswered ⊤ (Of bytes) (λ status. ⊥)) → AreAnswered (of_one_file file Of) NeverFree
 answered_once file Of are = freer (of_one_file file Of) (of_its_bytes (λ bytes status. ⊥)) NeverFree none (answered file Of (λ bytes status. ⊥) are)
   where
     none : (contents : List (List ℕ)) (status : Status) → of_its_bytes (λ bytes status. ⊥) contents status → ⊥

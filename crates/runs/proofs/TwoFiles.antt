@@ -3,15 +3,14 @@ use Rattle.std.proofs.Common.{◌≡◌, ◌⊎◌, ◌≤◌, ◌<◌, ℕ, Lis
 use Rattle.tml_io.specs.Files.{Files, IsThere, held}
 use Rattle.runs.specs.declared.status.Status.{Status}
 use Rattle.runs.specs.declared.status.Status.TheVariants.{TooLong}
-use Rattle.runs.specs.Answered.{AreAnswered, NeverFree}
 use Rattle.runs.specs.EveryReply.{HasNext}
 use Rattle.runs.specs.OneFile.{Answers}
 use Rattle.runs.specs.OneReply.{Agree, HasOneText, is_broken_off}
 use Rattle.runs.specs.Reading.{ReadsWhole, Reached, Reading, total}
 use Rattle.runs.specs.Replies.{Replies}
-use Rattle.runs.specs.Rows.{File, Next, Rows, answers, reads}
+use Rattle.runs.specs.Rows.{File, NeverFree, Next, Rows, answers, reads}
 use Rattle.runs.specs.TwoFiles.{CannotJudge, IsPassed, IsRefusedFirst, Judging, after_first, of_both, of_two_files}
-use Rattle.runs.proofs.Answering.{IsAnsweredAfter, IsDecisive}
+use Rattle.runs.proofs.Answering.{AreAnswered, IsAnsweredAfter, IsDecisive}
 use Rattle.runs.proofs.HowItEnds.{answered}
 use Rattle.runs.proofs.OneFile.{freer, the_one}
 use Rattle.runs.proofs.OneReply.{EndsWhole, ends_whole, not_both}
@@ -20,12 +19,12 @@ module _ {C : Type 0} (judging : Judging C) (first second : File) (Of : C → An
   agree : (contents : List (List ℕ)) (next other : Next) → of_two_files judging first second Of contents next → of_two_files judging first second Of contents other → Agree next other
   agree [] (reads a) (reads b) h k = h ∙ sym k
   agree [] (reads a) other h k = absurd k
-  agree (one ∷ []) (answers status text) (answers other line) h k = is.one_status one status other text line h k
+  agree (one ∷ []) (answers status text) (answers other line) h k = (is.refusal one).one_status status other text line h k
   agree (one ∷ []) (answers status text) (reads b) h k = absurd (is.not_both one status text k.0 h)
   agree (one ∷ []) (reads a) (answers status line) h k = absurd (is.not_both one status line h.0 k)
   agree (one ∷ []) (reads a) (reads b) h k = h.1 ∙ sym k.1
   agree (one ∷ other ∷ []) (answers status text) (answers found line) h k =
-      are.one_status one k.0 k.1 other status found text line (subst (λ (c : C). Of c other status text) (is.one_said one h.0 k.0 h.1 k.1) h.2) k.2
+      (are one k.0 k.1 other).one_status status found text line (subst (λ (c : C). Of c other status text) (is.one_said one h.0 k.0 h.1 k.1) h.2) k.2
   agree (one ∷ other ∷ []) (answers status text) next h k = absurd k
   agree contents next other h k = absurd h
 
@@ -40,7 +39,7 @@ module _ {C : Type 0} (judging : Judging C) (first second : File) (Of : C → An
   every_next (one ∷ other ∷ []) (file, is_first, gives, (next, (passed, same), short, rest)) =
       let one_within = subst (λ (f : File). length one ≤ f.limit) is_first gives.1 in
       let other_within = subst (λ (f : File). length other ≤ f.limit) same short.1 in
-      let answer = are.some one one_within passed.0 passed.1 other other_within in
+      let answer = (are one passed.0 passed.1 other).some (one_within, other_within) in
       (answers answer.0 answer.1, (passed.0, passed.1, answer.2))
   every_next (one ∷ other ∷ more ∷ rest) reading = absurd reading.3.3.1
 
@@ -51,14 +50,14 @@ module _ {C : Type 0} (judging : Judging C) (first second : File) (Of : C → An
   few (one ∷ other ∷ more ∷ rest) file row = absurd row
 
   whole_row : (contents : List (List ℕ)) (status : Status) (text : List ℕ) → of_two_files judging first second Of contents (answers status text) → is_broken_off status ≡ false
-  whole_row (one ∷ []) status text row = is.whole one status text row
-  whole_row (one ∷ other ∷ []) status text row = are.whole row.0 other status text row.2
+  whole_row (one ∷ []) status text row = (is.refusal one).whole status text row
+  whole_row (one ∷ other ∷ []) status text row = (are one row.0 row.1 other).whole status text row.2
   whole_row contents status text row = absurd row
 
   line_of : (contents : List (List ℕ)) (status : Status) → (of_both judging IsFree contents status → ⊥) → HasOneText (of_two_files judging first second Of) contents status
-  line_of (one ∷ []) status determined text line h k = is.one_text one status text line h k
+  line_of (one ∷ []) status determined text line h k = (is.refusal one).one_text status text line (λ free. free) h k
   line_of (one ∷ other ∷ []) status determined text line h k =
-      are.one_text one k.0 k.1 other status text line (λ free. determined (k.0, k.1, free)) (subst (λ (c : C). Of c other status text) (is.one_said one h.0 k.0 h.1 k.1) h.2) k.2
+      (are one k.0 k.1 other).one_text status text line (λ free. determined (k.0, k.1, free)) (subst (λ (c : C). Of c other status text) (is.one_said one h.0 k.0 h.1 k.1) h.2) k.2
   line_of contents status determined text line h k = absurd h
 
   pub both_answered : AreAnswered (of_two_files judging first second Of) (of_both judging IsFree)

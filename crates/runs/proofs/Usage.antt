@@ -1,14 +1,14 @@
 -- Words that have no form have one answer, and no file is read for it.
 use Rattle.std.proofs.Common.{◌≡◌, ◌<◌, ℕ, Bool, false, List, [], ◌∷◌, length, refl, sym, ◌∙◌, Option, arith}
 use Rattle.tml_io.specs.Files.{Files}
-use Rattle.runs.specs.Answered.{AreAnswered, NeverFree}
 use Rattle.runs.specs.EveryReply.{HasNext}
 use Rattle.runs.specs.OneReply.{Agree, HasOneText, is_broken_off}
 use Rattle.runs.specs.Replied.{IsReplyTo}
-use Rattle.runs.specs.Rows.{File, Next, answers, reads}
+use Rattle.runs.specs.Rows.{File, NeverFree, Next, answers, reads}
 use Rattle.runs.specs.Words.{usage_rows}
 use Rattle.runs.specs.declared.status.Status.{Status}
 use Rattle.runs.specs.declared.status.Status.TheVariants.{Usage}
+use Rattle.runs.proofs.Answering.{AreAnswered}
 use Rattle.runs.proofs.HowItEnds.{answered}
 
 module _ (usage : List ℕ) where

@@ -1,4 +1,3 @@
-pub mod Answered
 pub mod EveryReply
 pub mod Missing
 pub mod OneFile

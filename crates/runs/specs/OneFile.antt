@@ -1,8 +1,7 @@
 -- Commands that read one file, and answer by its contents.
 use Rattle.std.specs.Prelude.{◌≡◌, ℕ, List, [], ◌∷◌}
 use Rattle.runs.specs.declared.status.Status.{Status}
-use Rattle.runs.specs.Answered.{Freedom}
-use Rattle.runs.specs.Rows.{File, Rows, reads, answers}
+use Rattle.runs.specs.Rows.{File, Freedom, Rows, reads, answers}
 
 -- the answers to the contents of one file
 abbrev pub Answers : Type 1

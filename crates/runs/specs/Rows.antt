@@ -20,3 +20,11 @@ Rows = List (List ℕ) → Next → Type 0
 -- the rows that are left once a file with these contents was read
 abbrev pub once_read : List ℕ → Rows → Rows
 once_read bytes rows = λ contents next. rows (bytes ∷ contents) next
+
+-- after which contents and with which status the text of an answer is not determined
+abbrev pub Freedom : Type 1
+Freedom = List (List ℕ) → Status → Type 0
+
+-- every text is determined
+abbrev pub NeverFree : Freedom
+NeverFree contents status = ⊥

@@ -3,12 +3,11 @@ use Rattle.std.specs.Prelude.{◌≡◌, ◌⊎◌, false, ℕ, List, [], ◌∷
 use Rattle.tml_io.specs.Files.{Files}
 use Rattle.runs.specs.declared.status.Status.{Status}
 use Rattle.runs.specs.declared.status.Status.TheVariants.{NoMemory}
-use Rattle.runs.specs.Answered.{Freedom}
 use Rattle.runs.specs.OneFile.{Answers}
 use Rattle.runs.specs.OneReply.{is_broken_off}
 use Rattle.runs.specs.Reading.{AllThere, Reached}
 use Rattle.runs.specs.Replies.{Replies}
-use Rattle.runs.specs.Rows.{File, Rows, reads, answers}
+use Rattle.runs.specs.Rows.{File, Freedom, Rows, reads, answers}
 
 -- how a first file is judged: what it says, and how it is answered where it is refused
 pub record Judging (C : Type 0) : Type 1 where

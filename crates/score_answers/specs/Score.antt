@@ -10,8 +10,7 @@ use Rattle.net_core.specs.Limits.{max_document}
 use Rattle.net_core.specs.Nets.{PlainNet}
 use Rattle.tml_accept.specs.Acceptance.{FirstFault, Says}
 use Rattle.tml_refs.specs.Documents.{PlainDocument}
-use Rattle.runs.specs.Answered.{Freedom}
-use Rattle.runs.specs.Rows.{File, Rows}
+use Rattle.runs.specs.Rows.{File, Freedom, Rows}
 use Rattle.runs.specs.declared.status.Status.{Status}
 use Rattle.runs.specs.declared.status.Status.TheVariants.{Clash, DocFault, Done}
 use Rattle.tml_score.specs.Scores.{Annotation, AreScores}

@@ -1,18 +1,20 @@
 -- A document has one answer in seconds: one status. Which placing or which cycle is printed is free.
-use Rattle.std.proofs.Common.{◌≡◌, ◌⊎◌, ℕ, List, [], ◌∷◌, false, refl, subst, inl, inr}
+use Rattle.std.proofs.Common.{◌≡◌, ◌⊎◌, ℕ, List, [], ◌∷◌, false, refl, inl, inr}
+use Rattle.std.specs.Prelude.{⊤}
 use Rattle.answers.specs.Documents.{doc_file, of_contents, of_its_contents}
 use Rattle.answers.proofs.Answering.{ContentsAreAnswered}
 use Rattle.answers.proofs.Answered.{contents_answered}
 use Rattle.answers.proofs.Contents.{its_document}
+use Rattle.seconds_build.specs.Built.{IsTimedOf}
 use Rattle.seconds_build.proofs.EveryTime.{every_timed}
 use Rattle.seconds_build.proofs.Nets.{one_timed}
-use Rattle.seconds_core.specs.Timed.{PlainTimed}
+use Rattle.seconds_core.specs.Timed.{IsTimed, PlainTimed}
 use Rattle.tml_refs.specs.Documents.{PlainDocument}
-use Rattle.runs.specs.Answered.{AreAnswered}
 use Rattle.runs.specs.OneFile.{of_its_bytes}
 use Rattle.runs.specs.OneReply.{is_broken_off}
 use Rattle.runs.specs.declared.status.Status.{Status}
 use Rattle.runs.specs.declared.status.Status.TheVariants.{Clash, Done}
+use Rattle.runs.proofs.Answering.{AreAnswered, IsAnswered, by_the_one}
 use Rattle.runs.proofs.OneFile.{answered, freer}
 use Rattle.seconds_answers.specs.Placed.{OfSeconds, OfTimed, SecondsAreFree, seconds_rows}
 use Rattle.seconds_answers.proofs.Whole.{timed_answered}
@@ -40,14 +42,13 @@ no_other timed Done text line determined h = absurd (determined (inl refl))
 no_other timed Clash text line determined h = absurd (determined (inr refl))
 no_other timed status text line determined h = absurd h
 
+of_timed : (contents : PlainDocument) (timed : PlainTimed) → IsTimed timed → IsAnswered ⊤ (OfTimed timed) (IsFree contents)
+of_timed contents timed is = record { some = λ given. timed_answered timed is; one_status = timed_status timed; whole = whole timed; one_text = λ status text line determined h k. no_other timed status text line determined h }
+
 seconds : ContentsAreAnswered OfSeconds IsFree
-seconds = record {
-  some = λ doc contents says. let (timed, built, is) = every_timed contents (its_document doc contents says) in let answer = timed_answered timed is in (answer.0, answer.1, (timed, built, answer.2));
-  one_status = λ doc contents says status other text line h k.
-      timed_status k.0 status other text line (subst (λ (t : PlainTimed). OfTimed t status text) (one_timed contents h.0 k.0 h.1 k.1) h.2) k.2;
-  whole = λ contents status text h. whole h.0 status text h.2;
-  one_text = λ doc contents says status text line determined h k. no_other h.0 status text line determined h.2;
-}
+seconds doc contents says =
+    let (timed, built, is) = every_timed contents (its_document doc contents says) in
+    by_the_one (IsTimedOf contents) (one_timed contents) OfTimed timed built (of_timed contents timed is)
 
 free : (contents : List (List ℕ)) (status : Status) → of_its_bytes (of_its_contents IsFree) contents status → SecondsAreFree contents status
 free (doc ∷ []) status is = is.2

@@ -7,8 +7,7 @@ use Rattle.seconds_core.specs.Placed.{HasPlacing, IsPlaced}
 use Rattle.seconds_core.specs.Timed.{PlainTimed}
 use Rattle.seconds_core.specs.declared.line.Line.{Line}
 use Rattle.seconds_format.specs.Texts.{IsText}
-use Rattle.runs.specs.Answered.{Freedom}
-use Rattle.runs.specs.Rows.{Rows}
+use Rattle.runs.specs.Rows.{Freedom, Rows}
 use Rattle.runs.specs.declared.status.Status.{Status}
 use Rattle.runs.specs.declared.status.Status.TheVariants.{Clash, Done}
 use Rattle.seconds_search.specs.Decided.{IsShortCycle}

@@ -1,5 +1,5 @@
 -- The form that some words have, by its word and by how many arguments there are.
-use Rattle.std.proofs.Common.{◌≡◌, ◌≢◌, ◌↔◌, inl, inr, ℕ, ◌==◌, List, [], ◌∷◌, length, true, false, refl, sym, ap, subst, ◌∙◌, Option, Some, None, Bool, String, Global, string_bytes, arith}
+use Rattle.std.proofs.Common.{◌≡◌, ◌≢◌, inl, inr, ℕ, ◌==◌, List, [], ◌∷◌, length, true, false, refl, sym, ap, subst, ◌∙◌, Option, Some, None, Bool, String, Global, string_bytes, arith}
 use Rattle.std.specs.Prelude.{codes, if◌then◌else◌}
 use Rattle.std.proofs.lemmas.Bool.{eq-eqb}
 use Rattle.std.proofs.lemmas.Bool.Decides.{eqb_tells}
@@ -53,7 +53,3 @@ along known sound given now faults risen same form other status text e h = subst
 
 pub usage_replied : (known : Option Files) (sound : Bool) (given faults : ℕ) (same : Type 0) (form : Option (Form × List (List ℕ))) (text : List ℕ) → form ≡ None → text ≡ usage → same → IsReplyTo (rows_of form) known sound given given faults faults same Usage text
 usage_replied known sound given faults same form text e is unchanged = along known sound given given faults faults same form None Usage text e (replied_usage usage known sound given faults same text is unchanged)
-
--- the usage text is the reply to words that have no form
-pub usage_along : (form other : Option (Form × List (List ℕ))) (status : Status) → form ≡ other → (status ≡ Usage) ↔ (other ≡ None) → (status ≡ Usage) ↔ (form ≡ None)
-usage_along form other status e both = (λ is. e ∙ both.0 is, λ none. both.1 (sym e ∙ none))

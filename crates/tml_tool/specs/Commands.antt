@@ -22,8 +22,7 @@ use Rattle.possible_answers.specs.Possible.{possible_rows}
 use Rattle.score_answers.specs.Reduce.{reduce_rows}
 use Rattle.score_answers.specs.Score.{ScoreIsFree, score_rows}
 use Rattle.seconds_answers.specs.Placed.{SecondsAreFree, seconds_rows}
-use Rattle.runs.specs.Answered.{Freedom, NeverFree}
-use Rattle.runs.specs.Rows.{Rows}
+use Rattle.runs.specs.Rows.{Freedom, NeverFree, Rows}
 use Rattle.runs.specs.Words.{calls_for, texts_of, usage_rows}
 use Rattle.tml_tool.specs.Forms.{taken_by, usage_of, with_arguments}
 use Rattle.tml_tool.specs.declared.commands.Form.{Form}

@@ -1,4 +1,4 @@
-use Rattle.std.proofs.Common.{◌≡◌, ℕ, Bor, List, [], length, map, ◌∙◌, arith}
+use Rattle.std.proofs.Common.{ℕ, Bor, List, [], map, ◌∙◌, arith}
 use Rattle.std.proofs.lemmas.List.{get_or-map, length-map}
 use Rattle.order_answers.proofs.RowLines.{row_more}
 use Rattle.order_answers.proofs.relations.push_row.Goals as goal

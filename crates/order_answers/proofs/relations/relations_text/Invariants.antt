@@ -1,4 +1,4 @@
-use Rattle.std.proofs.Common.{◌≡◌, ◌++◌, ◌*◌, ℕ, Bor, List, drop, length, map}
+use Rattle.std.proofs.Common.{◌≡◌, ◌++◌, ℕ, Bor, List, drop, map}
 use Rattle.std.specs.List.{flat_map}
 use Rattle.answers.specs.Names.{AreNames}
 use Rattle.derive_rel.specs.Entailed.{AreRows}

@@ -1,4 +1,4 @@
-use Rattle.runs.specs.Answered.{NeverFree}
+use Rattle.runs.specs.Rows.{NeverFree}
 use Rattle.runs.proofs.EveryReply.{exactly_one_reply}
 use Rattle.tml_verify.specs.Words.{asked_of, rows_of}
 use Rattle.tml_verify.proofs.Answered.{words_answered}
