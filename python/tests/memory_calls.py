@@ -1,7 +1,7 @@
 #!/usr/bin/env python3
 """The public calls of the crates that can answer 'out of memory', and what shows that each of them answers otherwise.
 
-A body that always answers 'out of memory' is proved like any other. What excludes it is a test, a row of `tml_rows`, or a
+A body that always answers 'out of memory' is proved like any other. What excludes it is a test, a row of `command_rows`, or a
 question of another program whose output is compared. This script reads the sources: which functions are public, what they
 return, and which functions they call. It goes by names, so it finds what can make a call. `tml_answer` of `tml_c`, which
 returns a number, and `run` of the program `tml_verify` stand below the table, by hand.
@@ -27,8 +27,8 @@ HEAD = "| crate | call | shown by |\n|---|---|---|\n"
 
 OUT_OF_MEMORY = {"Memory", "NoMemory", "AllocError", "AllocFailed", "Fault"}
 """The types and the variants that say so. The `Fault` of acceptance is `None` there."""
-ROWS = ("library_rows", "tml_rows")
-"""The programs whose output is compared with what is wanted. What `tml_rows` asks `run` is known by its commands."""
+ROWS = ("library_rows", "command_rows")
+"""The programs whose output is compared with what is wanted. What `command_rows` asks `run` is known by its commands."""
 COMMANDS = CRATES / "tml_tool" / "src" / "commands.rt"
 RUN = CRATES / "tml_tool" / "src" / "top.rt"
 
@@ -231,7 +231,7 @@ def is_test(file: File) -> bool:
 
 def shown_by(graph: Graph, files: list[File]) -> dict[Function, str]:
     """What shows of each function that it answers: a test or a program of rows that calls it, else the first command of
-    `tml_rows` that may reach it, else a program of rows that may."""
+    `command_rows` that may reach it, else a program of rows that may."""
     shown: dict[Function, str] = {}
 
     def show(functions: Iterable[Function], what: str) -> None:

@@ -1,6 +1,6 @@
 """Answers about as large as may be: all pairs of 1,024 intervals, a clash over all of them, and evidence of some 50 MB.
 
-What these are is worked out here. The rows of `crates/tml_rows/stdin` have the other commands at the same limits, and more bytes of
+What these are is worked out here. The rows of `crates/command_rows/stdin` have the other commands at the same limits, and more bytes of
 documents and evidence.
 """
 

@@ -1,4 +1,4 @@
-"""The library over the table of `tml_rows`: it answers each row as the table wants it, and as the program does over real files."""
+"""The library over the table of `command_rows`: it answers each row as the table wants it, and as the program does over real files."""
 
 from __future__ import annotations
 
@@ -19,7 +19,7 @@ from reference import Outcome
 from tml.finding import BUILT_LIBRARY
 from tml.statuses import TmlStatus
 
-ROWS = Path(TOP, "crates", "tml_rows")
+ROWS = Path(TOP, "crates", "command_rows")
 SECTION = re.compile(r"^(.*): (\d+) right(?:, (\d+) WRONG)?$", re.MULTILINE)
 ON_PURPOSE = "rows that are wrong on purpose: how a difference is shown"
 LEFT_OUT = ("a read that failed", "a write that failed")
@@ -29,7 +29,7 @@ ANOTHER_NAME = b"input"
 
 
 def wanted_counts() -> dict[str, tuple[int, int]]:
-    """How many rows of each section are right and wrong, by what the gate wants `tml_rows` to print."""
+    """How many rows of each section are right and wrong, by what the gate wants `command_rows` to print."""
     printed = (ROWS / "stdout").read_text(encoding="utf-8")
     return {name: (int(right), int(wrong or 0)) for name, right, wrong in SECTION.findall(printed)}
 
@@ -116,7 +116,7 @@ class TableRows(unittest.TestCase):
         elif row.section != ON_PURPOSE:
             cls.wrong.append(f"line {row.line}, {case.words}: {outcome.status}, and not {row.wanted.status}, or another text")
 
-    def test_the_table_is_read_as_tml_rows_reads_it(self) -> None:
+    def test_the_table_is_read_as_command_rows_reads_it(self) -> None:
         """No row is missing but those whose devices fail, which are few lines of the table."""
         wanted = {section: sum(counts) for section, counts in wanted_counts().items()}
         self.assertEqual({section: self.tried.answered[section] + self.tried.left_out[section] for section in wanted}, wanted)

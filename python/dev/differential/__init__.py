@@ -4,7 +4,7 @@
   questions about them, `devices` files and outputs that fail, and `evidence` what `verify`, `renew` and `join` read. `drawing` draws a
   case of any of these.
 - Running: `programs` runs a process for each case, `rows` very many cases in one process, and `libraries` asks a library in a process of
-  its own, which is `answering`. `tables` reads the table of cases that `tml_rows` has.
+  its own, which is `answering`. `tables` reads the table of cases that `command_rows` has.
 - Comparing: `comparing` asks the reference, and `trees`, `datetimes` and `reals` are further referees.
 - `reducing` makes a case that differs small, `keeping` keeps it in a folder, and `trying` and `commands` put all together.
 

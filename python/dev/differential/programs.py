@@ -29,7 +29,7 @@ def program_path() -> Path:
 
 def rows_path() -> Path:
     """The program that runs tables of cases: that of the variable TML_ROWS, or the one that was built."""
-    return Path(os.environ.get("TML_ROWS") or TOP / "crates" / "tml_rows" / "out" / "tml_rows").absolute()
+    return Path(os.environ.get("TML_ROWS") or TOP / "crates" / "command_rows" / "out" / "command_rows").absolute()
 
 
 STANDARD_ERROR = b"\nstandard error: "

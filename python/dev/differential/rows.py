@@ -1,4 +1,4 @@
-"""Runs very many cases in one process: `tml_rows` reads them as a table and prints what was answered to each.
+"""Runs very many cases in one process: `command_rows` reads them as a table and prints what was answered to each.
 
 A row of the table wants a status that there is none of, so that each answer is printed. What a text is printed as leaves one thing
 open: whether a `\\` at its end stands for itself and a line feed, or for none. So cases with a `\\` in a file go to a process each.

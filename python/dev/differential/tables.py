@@ -1,4 +1,4 @@
-"""Reads a table of cases as `tml_rows` does: `crates/tml_rows/stdin` says what its lines are.
+"""Reads a table of cases as `command_rows` does: `crates/command_rows/stdin` says what its lines are.
 
 A command may write to a file that commands below it read, so a row is there only once the ones above it were answered.
 """

@@ -1,7 +1,7 @@
 //! What `tml` answers, and whether it is what is wanted.
 ghost use Rattle.std.specs.Prelude.{◌≡◌, ◌↔◌, IsTrue, IfOk};
 ghost use Rattle.tml_io.specs.InMemory.{entries};
-ghost use Rattle.tml_rows.specs.Answers.{Answers};
+ghost use Rattle.command_rows.specs.Answers.{Answers};
 ghost use Rattle.runs.specs.Status.{number_of};
 
 use crate::devices::Devices;

@@ -1,4 +1,4 @@
-//! `tml_rows`: runs `tml` on each row of a table of cases, and prints each answer that is not the one in the table.
+//! `command_rows`: runs `tml` on each row of a table of cases, and prints each answer that is not the one in the table.
 #![tactic(auto)]
 
 mod answer;
