@@ -353,7 +353,7 @@ class WrongCitations(unittest.TestCase):
 
     def test_functions_that_are_not_public(self) -> None:
         self.assert_wrong("`reply_to`: `reply` in `tml_tool/src/top.rt`", "no public item `reply_to` in `tml_tool`")
-        self.assert_wrong("`components_of` in `net_orders/src/rings.rt`", "no public item `components_of` in `net_orders`")
+        self.assert_wrong("`components_of` in `net_orders/src/components.rt`", "no public item `components_of` in `net_orders`")
         self.assert_wrong("`BaseSet::none` in `tml_possible/src/base_set.rt`", "no public item `BaseSet::none` in `tml_possible`")
 
     def test_columns_that_name_a_function_or_a_file(self) -> None:
@@ -394,12 +394,13 @@ class WrongCitations(unittest.TestCase):
         )
 
     def test_names_that_are_not_clear(self) -> None:
-        text = "`net_core/specs/Fits`: `KeepsLink`\n`KeepsLink` `Claim` `ShowsTruth`\n`Claim` of `evidence_check`, `Claim::Fitz`\n"
+        text = "`tml_tree/specs/Whole`: `kind_and_place`\n`kind_and_place` `Claim` `ShowsTruth`\n"
+        text += "`Claim` of `evidence_check`, `Claim::Fitz`\n"
         self.assertEqual(
             list(Citations(text).unclear()), [(2, "`ShowsTruth` is cited in 0 places"), (3, "no `Claim::Fitz` in any crate")]
         )
-        again = f"{text}`seconds_core/specs/Placed`: `KeepsLink`\n"
-        self.assertIn((2, "`KeepsLink` is cited in 2 places"), Citations(again).unclear())
+        again = f"{text}`tml_types/specs/Whole`: `kind_and_place`\n"
+        self.assertIn((2, "`kind_and_place` is cited in 2 places"), Citations(again).unclear())
 
     def test_each_name_in_a_citation_counts(self) -> None:
         """Whichever name in a citation on the pages is another one, that is found."""

@@ -9,7 +9,7 @@ use Rattle.tml_refs.specs.Documents.{PlainDocument}
 use Rattle.runs.specs.declared.status.Status.{Status}
 use Rattle.runs.specs.declared.status.Status.TheVariants.{DocFault}
 use Rattle.runs.specs.OneFile.{of_its_bytes}
-use Rattle.runs.specs.OneReply.{is_broken_off}
+use Rattle.runs.specs.OneReply.{is_aborted}
 use Rattle.runs.specs.Rows.{File, NeverFree}
 use Rattle.runs.proofs.Answering.{Answer, AreAnswered, HasAnswer, IsAnswered, IsAnsweredAfter, IsDecisive, by_the_one, freed, given_by, left_only, right_only}
 use Rattle.runs.proofs.OneFile.{answered, freer}
@@ -27,7 +27,7 @@ refusal : (doc : List ℕ) (IsGiven : Type 0) (IsFree : Status → Type 0) → (
 refusal doc IsGiven IsFree some = record {
   some = some;
   one_status = λ status other text line h k. h.0 ∙ sym k.0;
-  whole = λ status text h. ap is_broken_off h.0;
+  whole = λ status text h. ap is_aborted h.0;
   one_text = λ status text line determined h k. one_refusal doc status status text line h k;
 }
 

@@ -9,7 +9,7 @@ use Rattle.net_core.specs.Fits.{EveryLink, Fits, FitsWith}
 use Rattle.net_core.specs.Nets.{IsNet, PlainNet, points}
 use Rattle.net_core.specs.Walks.{IsClosedWalk, Kept}
 use Rattle.net_core.proofs.StepLaws.{fits_fewer}
-use Rattle.net_core.proofs.WalkLaws.{joined_more, over_chosen, round_clashes}
+use Rattle.net_core.proofs.WalkLaws.{joined_more, over_chosen, closed_walk_clashes}
 use Rattle.net_core.specs.Least.{AreSpares, IsSpare}
 use Rattle.net_core.specs.Relations.{Timeline}
 use Rattle.order_closure.specs.Tables.{AreClosed, AreCellsKept}
@@ -21,7 +21,7 @@ use Rattle.clash.specs.declared.minimal.Clash.{Clash}
 use Rattle.clash.proofs.Complete.{closed_cells, fits_or_closed_walk, least_or_closed_walk, walk_or_counter}
 use Rattle.clash.proofs.MarkedLinks.{every_marked, kept_within}
 use Rattle.clash.proofs.Proved.{proved_links}
-use Rattle.clash.proofs.Rounds.{goes_over, others_set, set_others, spared_fewer}
+use Rattle.clash.proofs.ClosedWalks.{goes_over, others_set, set_others, spared_fewer}
 use Rattle.clash.proofs.ShortWalks.{short_walk}
 
 -- marks of all links
@@ -59,11 +59,11 @@ module _ (net : PlainNet) (is : IsNet net) where
             ];
           },
         )
-        | inr round ↦ (
+        | inr closed ↦ (
           without,
           record {
             size = length-set keep k false ∙ has.size;
-            clashes = round_clashes net (Kept without) round.0 round.1;
+            clashes = closed_walk_clashes net (Kept without) closed.0 closed.1;
             needed = λ j le kept.
                 let other = set_others keep k j kept in
                 spared_fewer net (Kept keep) (Kept without) j (λ i also. (set_others keep k i also).0) (has.needed j (after j le other.1) other.0);
@@ -94,7 +94,7 @@ module _ (net : PlainNet) (is : IsNet net) where
               fits_fewer net (Others (Kept keep) k) (Kept without) t (λ j below also. set_others keep k j also),
             )) found.1,
           )
-          | inr round ↦ absurd (round_clashes net (Kept without) round.0 round.1 spared.0 (fits_fewer net (Others (Kept keep) k) (Kept without) spared.0 (λ j below also. set_others keep k j also) spared.1))
+          | inr closed ↦ absurd (closed_walk_clashes net (Kept without) closed.0 closed.1 spared.0 (fits_fewer net (Others (Kept keep) k) (Kept without) spared.0 (λ j below also. set_others keep k j also) spared.1))
         ]
 
     -- one for each cite
@@ -113,15 +113,15 @@ module _ (net : PlainNet) (is : IsNet net) where
     clash_of : (clash : Clash) × IsProvedClash net clash
     clash_of = elim (fits_or_closed_walk net (λ j. slice_index_or keep j false) is) [
       | inl fits ↦ absurd (has.clashes fits.0 fits.1)
-      | inr round ↦
-          let short = short_walk net (Kept keep) round.1.0 round.1.0 true is (round.0, round.1.1) in
-          let goes : IsClosedWalk net (Kept keep) short.0 = (round.1.0, short.1) in
+      | inr closed ↦
+          let short = short_walk net (Kept keep) closed.1.0 closed.1.0 true is (closed.0, closed.1.1) in
+          let goes : IsClosedWalk net (Kept keep) short.0 = (closed.1.0, short.1) in
           let marked = every_marked keep (length keep) in
           let kept = λ (k : ℕ) (among : Contains marked.0 k). ((marked.1.exact k).0 among).1 in
           let spares = spares_of marked.0 kept in (
             record { cites = marked.0; walk = short.0; spares = spares.0 },
             proved_links net marked.0 (Kept keep) short.0 goes
-                (λ k below. (λ also. goes_over net (Kept keep) k short.0 (has.needed k (omega arith) also) goes, over_chosen net (Kept keep) short.0 round.1.0 round.1.0 k short.1.0)) short.2
+                (λ k below. (λ also. goes_over net (Kept keep) k short.0 (has.needed k (omega arith) also) goes, over_chosen net (Kept keep) short.0 closed.1.0 closed.1.0 k short.1.0)) short.2
                 (λ k. (kept k, λ also. (marked.1.exact k).1 (kept_within keep k also, also)))
                 (λ k also. has.needed k (omega arith) also) spares.0 marked.1.rising spares.1,
           )
@@ -141,10 +141,10 @@ module _ (net : PlainNet) (is : IsNet net) where
             fits_fewer net EveryLink (Kept keep) t (λ k below also. tt),
           )) found.1,
         )
-        | inr round ↦
+        | inr closed ↦
             let start : AreThinned (length net.links) keep = record {
               size = whole;
-              clashes = round_clashes net (Kept keep) round.0 round.1;
+              clashes = closed_walk_clashes net (Kept keep) closed.0 closed.1;
               needed = λ j past kept. absurd (omega (arith, kept_within keep j kept, whole));
             } in
             let end = thinned (length net.links) keep start in

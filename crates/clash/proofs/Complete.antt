@@ -15,7 +15,7 @@ use Rattle.net_core.specs.declared.atom.Atom.{Atom}
 use Rattle.net_core.specs.declared.step.Step.{Step}
 use Rattle.net_core.specs.declared.step.Step.TheVariants.{Link, Span, Calendar}
 use Rattle.net_core.proofs.StepLaws.{fits_from_steps, step_in_range, step_kept}
-use Rattle.net_core.proofs.WalkLaws.{round_clashes, walk_kept}
+use Rattle.net_core.proofs.WalkLaws.{closed_walk_clashes, walk_kept}
 use Rattle.net_core.specs.Least.{AreLeast}
 use Rattle.order_closure.specs.Cells.{order, strength}
 use Rattle.order_closure.specs.Tables.{AreClosed, AreCellsKept}
@@ -24,7 +24,7 @@ use Rattle.order_closure.proofs.LeastRanks.{counter_ranks, least_ranks, same_ran
 use Rattle.clash.specs.Walks.{AlwaysWith, ClashesHaveClosedWalks, WalksSayAll}
 use Rattle.clash.proofs.Elements.{first_in, first_or_rest, rest_in}
 use Rattle.clash.proofs.EveryStep.{every_step, of_every_step}
-use Rattle.clash.proofs.Paths.{AllTrue, HasPath, Leads, SaysPaths, any_strict, table_or_round}
+use Rattle.clash.proofs.Paths.{AllTrue, HasPath, Leads, SaysPaths, any_strict, table_or_closed_path}
 
 -- ---- walks over the links that pass a test
 
@@ -121,9 +121,9 @@ module _ (net : PlainNet) (test : ℕ → Bool) (is : IsNet net) where
   Table = (cell : ℕ → ℕ → Cell) × SaysPaths order_of all_taken (points net) in_range cell
 
   table_or_walk : Table ⊎ ((steps : List Step) × IsClosedWalk net (Passed test) steps)
-  table_or_walk = elim (table_or_round order_of all_taken (points net) in_range) [
+  table_or_walk = elim (table_or_closed_path order_of all_taken (points net) in_range) [
     | inl table ↦ inl table
-    | inr round ↦ let walk = walk_of round.0 round.0 true round.1 in inr (walk.0, (round.0, walk.1))
+    | inr closed ↦ let walk = walk_of closed.0 closed.0 true closed.1 in inr (walk.0, (closed.0, walk.1))
   ]
 
   kept_fits : (table : Table) (t : Timeline) → AreCellsKept (points net) table.0 t ↔ FitsWith net (Passed test) t
@@ -135,35 +135,35 @@ module _ (net : PlainNet) (test : ℕ → Bool) (is : IsNet net) where
     | inl table ↦
         let found = least_ranks (points net) table.0 table.1.closed in
         inl (found.0, same_ranks (points net) (AreCellsKept (points net) table.0) (FitsWith net (Passed test)) found.0 (kept_fits table) found.1)
-    | inr round ↦ inr round
+    | inr closed ↦ inr closed
   ]
 
   -- some timeline fits, and none of its ranks is above the number of points, or some walk is closed
   pub fits_or_closed_walk : ((t : Timeline) × FitsWith net (Passed test) t × ((p : ℕ) → p < points net → t p < points net)) ⊎ ((steps : List Step) × IsClosedWalk net (Passed test) steps)
   fits_or_closed_walk = elim least_or_closed_walk [
     | inl least ↦ inl (timeline_of least.0, least.1.least.holds, least.1.small)
-    | inr round ↦ inr round
+    | inr closed ↦ inr closed
   ]
 
   -- where none fits some walk is closed
   pub some_closed_walk : Clashes net (Passed test) → (steps : List Step) × IsClosedWalk net (Passed test) steps
   some_closed_walk none = elim fits_or_closed_walk [
     | inl fits ↦ absurd (none fits.0 fits.1)
-    | inr round ↦ round
+    | inr closed ↦ closed
   ]
 
   -- where some timeline fits, one does with ranks below the number of points
   pub small_timeline : (u : Timeline) → FitsWith net (Passed test) u → (t : Timeline) × FitsWith net (Passed test) t × ((p : ℕ) → p < points net → t p < points net)
   small_timeline u fits = elim fits_or_closed_walk [
     | inl small ↦ small
-    | inr round ↦ absurd (round_clashes net (Passed test) round.0 round.1 u fits)
+    | inr closed ↦ absurd (closed_walk_clashes net (Passed test) closed.0 closed.1 u fits)
   ]
 
   -- where some timeline fits, closed cells are kept by those that do and no others
   pub closed_cells : (u : Timeline) → FitsWith net (Passed test) u → (cell : ℕ → ℕ → Cell) × AreClosed (points net) cell × ((t : Timeline) → AreCellsKept (points net) cell t ↔ FitsWith net (Passed test) t)
   closed_cells u fits = elim table_or_walk [
     | inl table ↦ (table.0, table.1.closed, kept_fits table)
-    | inr round ↦ absurd (round_clashes net (Passed test) round.0 round.1 u fits)
+    | inr closed ↦ absurd (closed_walk_clashes net (Passed test) closed.0 closed.1 u fits)
   ]
 
   -- where some timeline fits an order has a walk, or there are least ranks that fit and in which it is false
@@ -182,7 +182,7 @@ module _ (net : PlainNet) (test : ℕ → Bool) (is : IsNet net) where
           )
       | inr enough ↦ inl (walk_of atom.from atom.to atom.strict (table.1.paths atom.from atom.to atom.strict range.0 range.1 enough))
     ]
-    | inr round ↦ absurd (round_clashes net (Passed test) round.0 round.1 u fits)
+    | inr closed ↦ absurd (closed_walk_clashes net (Passed test) closed.0 closed.1 u fits)
   ]
 
   -- what holds in all timelines that fit has a walk, where some timeline fits
@@ -194,7 +194,7 @@ module _ (net : PlainNet) (test : ℕ → Bool) (is : IsNet net) where
 
 -- clashes have closed walks
 pub clashes_have_closed_walks : ClashesHaveClosedWalks
-clashes_have_closed_walks net keep is = (some_closed_walk net (λ k. slice_index_or keep k false) is, λ walk. round_clashes net (Kept keep) walk.0 walk.1)
+clashes_have_closed_walks net keep is = (some_closed_walk net (λ k. slice_index_or keep k false) is, λ walk. closed_walk_clashes net (Kept keep) walk.0 walk.1)
 
 -- walks say all
 pub walks_say_all : WalksSayAll

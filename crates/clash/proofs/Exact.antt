@@ -6,7 +6,7 @@ use Rattle.net_core.specs.Fits.{EveryLink, Fits, FitsWith}
 use Rattle.net_core.specs.Nets.{PlainNet, points}
 use Rattle.net_core.specs.Relations.{Timeline}
 use Rattle.net_core.proofs.StepLaws.{fits_fewer}
-use Rattle.order_closure.specs.Cells.{Says, order, strength}
+use Rattle.order_closure.specs.Cells.{CellSays, order, strength}
 use Rattle.order_closure.specs.Counting.{before_count}
 use Rattle.net_core.specs.declared.atom.Atom.{Atom}
 use Rattle.order_closure.specs.Tables.{IsClosed, Keeps, SatisfiesAll, Table, cell_at}
@@ -16,7 +16,7 @@ use Rattle.clash.specs.Closures.{IsClosureOf, NoLink}
 use Rattle.clash.specs.Minimal.{IsFirstClash, IsProvedClash, UpTo}
 use Rattle.clash.specs.declared.minimal.Clash.{Clash}
 use Rattle.net_orders.specs.Orders.{AreFixed}
-use Rattle.net_orders.specs.Steps.{Adds, IsFirstExcluded, KeepsLinks}
+use Rattle.net_orders.specs.Steps.{AddsToTable, IsFirstExcluded, KeepsLinks}
 
 module _ (net : PlainNet) (table : Table) (closed : IsClosed table) (size : table.points ≡ points net) (keeps : (t : Timeline) → Keeps table t ↔ Fits net t) where
   -- an order that every timeline has stands in the table
@@ -24,7 +24,7 @@ module _ (net : PlainNet) (table : Table) (closed : IsClosed table) (size : tabl
   stands strict p q lp lq always = always_stands table.points (cell_at table) closed strict p q lp lq (λ t kept. always t ((keeps t).0 kept))
 
   -- what a cell says of every timeline
-  says : (p q : ℕ) → p < table.points → q < table.points → (t : Timeline) → Fits net t → Says (cell_at table p q) (t p) (t q)
+  says : (p q : ℕ) → p < table.points → q < table.points → (t : Timeline) → Fits net t → CellSays (cell_at table p q) (t p) (t q)
   says p q lp lq t fits = (keeps t).1 fits p q lp lq
 
   -- the cells are exactly what all timelines that fit have in common
@@ -53,7 +53,7 @@ module _ (net : PlainNet) (table : Table) (closed : IsClosed table) (size : tabl
   one_fits = let t = before_count table.points (cell_at table) in (t, (keeps t).0 (counts_kept table.points (cell_at table) closed))
 
 -- the timelines that keep the table of what is fixed are those that fit with no links
-pub unlinked : (net : PlainNet) (fixed : List Atom) (none last : Table) → AreFixed net fixed → ((t : Timeline) → Keeps none t) → Adds (SatisfiesAll fixed) none last
+pub unlinked : (net : PlainNet) (fixed : List Atom) (none last : Table) → AreFixed net fixed → ((t : Timeline) → Keeps none t) → AddsToTable (SatisfiesAll fixed) none last
     → (t : Timeline) → Keeps last t ↔ FitsWith net NoLink t
 unlinked net fixed none last are all adds t = (
   λ kept.
@@ -64,7 +64,7 @@ unlinked net fixed none last are all adds t = (
 
 module _ (net : PlainNet) (table : Table) (fitting : (t : Timeline) → Keeps table t ↔ FitsWith net NoLink t) where
   -- the timelines that keep the table with all links are those that fit
-  pub keeps_fits : (last : Table) → Adds (KeepsLinks net) table last → (t : Timeline) → Keeps last t ↔ Fits net t
+  pub keeps_fits : (last : Table) → AddsToTable (KeepsLinks net) table last → (t : Timeline) → Keeps last t ↔ Fits net t
   keeps_fits last links t = (
     λ kept.
         let both = (links.1 t).0 kept in

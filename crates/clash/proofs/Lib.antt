@@ -3,7 +3,7 @@ pub mod EveryStep
 pub mod Complete
 pub mod ShortWalks
 pub mod Unlinked
-pub mod Rounds
+pub mod ClosedWalks
 pub mod MarkedLinks
 pub mod Proved
 pub mod WalkBut

@@ -4,7 +4,7 @@ use Rattle.net_core.specs.Fits.{EveryLink, Fits, FitsWith}
 use Rattle.net_core.specs.Nets.{IsNet, PlainNet, points}
 use Rattle.net_core.specs.Relations.{Timeline}
 use Rattle.net_core.proofs.StepLaws.{fits_fewer}
-use Rattle.order_closure.specs.Cells.{Says}
+use Rattle.order_closure.specs.Cells.{CellSays}
 use Rattle.order_closure.specs.Tables.{AreCellsKept, IsClosed, Keeps, cell_at, table_of}
 use Rattle.order_closure.specs.declared.cell.Cell.{Cell}
 use Rattle.order_closure.specs.declared.cell.Cell.TheVariants.{Free, Strict, Weak}
@@ -25,8 +25,8 @@ known_cell Free Free strict weak = refl
 module _ (n : ℕ) (cell : ℕ → ℕ → Cell) (t : Timeline) where
   table_kept : Keeps (table_of n cell) t ↔ AreCellsKept n cell t
   table_kept = (
-    λ kept i j li lj. subst (λ c. Says c (t i) (t j)) (cell_at-table_of n cell i j li lj) (kept i j li lj),
-    λ kept i j li lj. subst (λ c. Says c (t i) (t j)) (sym (cell_at-table_of n cell i j li lj)) (kept i j li lj),
+    λ kept i j li lj. subst (λ c. CellSays c (t i) (t j)) (cell_at-table_of n cell i j li lj) (kept i j li lj),
+    λ kept i j li lj. subst (λ c. CellSays c (t i) (t j)) (sym (cell_at-table_of n cell i j li lj)) (kept i j li lj),
   )
 
 pub one_closure : (net : PlainNet) → IsNet net → HasOneClosure net

@@ -1,4 +1,4 @@
--- Each order that always holds has a path: orders of points have a closed table whose cells all have paths, or there is a round.
+-- Each order that always holds has a path: orders of points have a closed table whose cells all have paths, or there is a closed walk.
 use Rattle.std.proofs.Common.{◌≡◌, ◌↔◌, ℕ, ◌<◌, ◌≤◌, max, Bool, true, false, ◌||◌, List, [], ◌∷◌, ◌++◌, refl, sym, subst, ◌∙◌, arith, ◌⊎◌, inl, inr}
 use Rattle.std.specs.List.{AllByRecursion, Contains, list_any}
 use Rattle.std.proofs.lemmas.Bool.{cases_lt, cases_eq}
@@ -9,7 +9,7 @@ use Rattle.net_core.specs.Atoms.{IsInOrder, IsInRange, Satisfies}
 use Rattle.net_core.specs.Relations.{Timeline}
 use Rattle.net_core.specs.declared.atom.Atom.{Atom}
 use Rattle.net_core.proofs.WalkLaws.{in_order_then, in_order_weaker}
-use Rattle.order_closure.specs.Cells.{Says, joined, order, strength, stronger}
+use Rattle.order_closure.specs.Cells.{CellSays, joined, order, strength, stronger}
 use Rattle.order_closure.specs.Counting.{is_strict}
 use Rattle.order_closure.specs.Tables.{AreClosed, AreCellsKept, Denies, new_cell, way}
 use Rattle.order_closure.specs.declared.cell.Cell.{Cell}
@@ -68,7 +68,7 @@ denies_enough Weak false h = absurd h
 denies_enough Free o h = absurd h
 
 -- what a cell says, from the order that it is
-said_by : (x : Cell) (a b : ℕ) → (1 ≤ strength x → IsInOrder (is_strict x) a b) → Says x a b
+said_by : (x : Cell) (a b : ℕ) → (1 ≤ strength x → IsInOrder (is_strict x) a b) → CellSays x a b
 said_by Free a b h = tt
 said_by Weak a b h = h (omega arith)
 said_by Strict a b h = h (omega arith)
@@ -146,7 +146,7 @@ module _ {E : Type 0} (atom : E → Atom) (edges : List E) where
       said : AllByRecursion (IsSaid cell) some
       paths : (i j : ℕ) (strict : Bool) → i < n → j < n → strength (order strict) ≤ strength (cell i j) → HasPath i j strict
 
-    -- there is such a table, or a round: a path from a point to itself with a strict step
+    -- there is such a table, or a closed walk: a path from a point to itself with a strict step
     Result : List E → Type 0
     Result some = ((cell : ℕ → ℕ → Cell) × HasCells some cell) ⊎ ((x : ℕ) × HasPath x x true)
 
@@ -223,27 +223,27 @@ module _ {E : Type 0} (atom : E → Atom) (edges : List E) where
       paths = has.paths;
     }
 
-    -- the edges have such a table, or a round
-    pub table_or_round : ((cell : ℕ → ℕ → Cell) × SaysPaths cell) ⊎ ((x : ℕ) × HasPath x x true)
+    -- the edges have such a table, or a closed walk
+    pub table_or_closed_path : ((cell : ℕ → ℕ → Cell) × SaysPaths cell) ⊎ ((x : ℕ) × HasPath x x true)
     unfolding Result
-    table_or_round = elim (result edges (recursion_from_All (Contains edges) edges (All-contains_itself edges))) [
+    table_or_closed_path = elim (result edges (recursion_from_All (Contains edges) edges (All-contains_itself edges))) [
       | inl good ↦ inl (good.0, says_paths good.0 good.1)
-      | inr round ↦ inr round
+      | inr closed ↦ inr closed
     ]
 
-    -- in no timeline of which all edges are true is there a round
-    pub no_round : (u : Timeline) (x : ℕ) → AllTrue u → HasPath x x true → ⊥
-    no_round u x all path = let less : u x < u x = path_kept u x x true all path in omega arith
+    -- in no timeline of which all edges are true is there a closed walk
+    pub no_closed_path : (u : Timeline) (x : ℕ) → AllTrue u → HasPath x x true → ⊥
+    no_closed_path u x all path = let less : u x < u x = path_kept u x x true all path in omega arith
 
     -- where all edges are true of some timeline an order has a path, or it is false in some timeline of which they are
     pub path_or_counter : (u : Timeline) → AllTrue u → (p q : ℕ) (strict : Bool) → p < n → q < n
         → HasPath p q strict ⊎ ((t : Timeline) × AllTrue t × (IsInOrder strict (t p) (t q) → ⊥))
-    path_or_counter u all p q strict lp lq = elim table_or_round [
+    path_or_counter u all p q strict lp lq = elim table_or_closed_path [
       | inl good ↦ elim (cases_lt (strength (good.0 p q)) (strength (order strict))) [
         | inl weaker ↦
             let c = counter_time n good.0 good.1.closed (record { from = p; to = q; strict = strict }) lp lq weaker in
             inr (c.0, (good.1.kept c.0).0 c.1, c.2)
         | inr enough ↦ inl (good.1.paths p q strict lp lq enough)
       ]
-      | inr bad ↦ absurd (no_round u bad.0 all bad.1)
+      | inr bad ↦ absurd (no_closed_path u bad.0 all bad.1)
     ]

@@ -9,12 +9,12 @@ use Rattle.net_core.specs.Nets.{PlainNet, points}
 use Rattle.net_core.specs.Walks.{GoesOver, IsClosedWalk, Kept}
 use Rattle.net_core.specs.declared.step.Step.{Step}
 use Rattle.net_core.proofs.StepLaws.{fits_fewer}
-use Rattle.net_core.proofs.WalkLaws.{over_links, round_clashes, round_more}
+use Rattle.net_core.proofs.WalkLaws.{over_links, closed_walk_clashes, closed_walk_more}
 use Rattle.net_core.specs.Least.{AreSpares, IsSpare}
 use Rattle.order_closure.proofs.LeastRanks.{same_ranks}
 use Rattle.clash.specs.Minimal.{IsProvedClash, IsMarkedWalk, IsSpared}
 use Rattle.clash.specs.declared.closed_walk.ClosedWalk.{ClosedWalk}
-use Rattle.clash.proofs.Rounds.{goes_over, spared_fewer}
+use Rattle.clash.proofs.ClosedWalks.{goes_over, spared_fewer}
 
 module _ (net : PlainNet) (cites : List ℕ) (Over : ℕ → Type 0) (walk : List Step) (goes : IsClosedWalk net Over walk) (over : (k : ℕ) → k < length net.links → Over k ↔ GoesOver walk k) (short : length walk ≤ 2 * points net)
     (exact : (k : ℕ) → Contains cites k ↔ Over k) (needed : (k : ℕ) → Over k → IsSpared net Over k) where
@@ -37,18 +37,18 @@ module _ (net : PlainNet) (cites : List ℕ) (Over : ℕ → Type 0) (walk : Lis
     rising = rising;
     minimal = record {
       links = All-weaker (Contains cites) (λ k. k < length net.links) (λ k has. over_below k ((exact k).0 has)) cites (All-contains_itself cites);
-      clashes = λ t fits. round_clashes net Over walk goes t (fits_fewer net (Contains cites) Over t (λ k below is_over. cited k is_over) fits);
+      clashes = λ t fits. closed_walk_clashes net Over walk goes t (fits_fewer net (Contains cites) Over t (λ k below is_over. cited k is_over) fits);
       needed = All-weaker (Contains cites) (λ k. IsSpared net (Contains cites) k) (λ k has. spared_fewer net Over (Contains cites) k (λ j has. (exact j).0 has) (needed k ((exact k).0 has))) cites (All-contains_itself cites);
     };
-    round = (
-      round_more net Over EveryLink walk (λ k is_over. tt) goes,
+    closed = (
+      closed_walk_more net Over EveryLink walk (λ k is_over. tt) goes,
       λ k below. (λ gone. cited k ((over k below).1 gone), λ has. (over k below).0 ((exact k).0 has)),
     );
     short = short;
     spares = (are.0, λ i below. spare_cited (slice_index cites i) (slice_index_or spares i []) (are.1 i below));
   }
 
--- the same of a round and its marks
-pub proved_clash : (net : PlainNet) (cites : List ℕ) (round : ClosedWalk) → IsMarkedWalk net round → ((k : ℕ) → Contains cites k ↔ Kept round.over.items k) → ((k : ℕ) → Kept round.over.items k → IsSpared net (Kept round.over.items) k)
-    → (spares : List (List ℕ)) → IsStrictlyIncreasing cites → AreSpares net (Kept round.over.items) cites spares → IsProvedClash net (record { cites = cites; walk = round.walk; spares = spares })
-proved_clash net cites round is exact needed = proved_links net cites (Kept round.over.items) round.walk is.goes is.over is.short exact needed
+-- the same of a closed walk and its marks
+pub proved_clash : (net : PlainNet) (cites : List ℕ) (closed : ClosedWalk) → IsMarkedWalk net closed → ((k : ℕ) → Contains cites k ↔ Kept closed.over.items k) → ((k : ℕ) → Kept closed.over.items k → IsSpared net (Kept closed.over.items) k)
+    → (spares : List (List ℕ)) → IsStrictlyIncreasing cites → AreSpares net (Kept closed.over.items) cites spares → IsProvedClash net (record { cites = cites; walk = closed.walk; spares = spares })
+proved_clash net cites closed is exact needed = proved_links net cites (Kept closed.over.items) closed.walk is.goes is.over is.short exact needed

@@ -28,37 +28,37 @@ module _ {X : Type 0} (Leads : X → ℕ → ℕ → Type 0) where
   IsPathIn test (x ∷ xs) a b = (c : ℕ) × Leads x a c × (test c ≡ true) × IsPathIn test xs c b
 
   -- all that pass but one
-  abbrev but : ℕ → (ℕ → Bool) → ℕ → Bool
-  but a test c = not (nat_eq c a) && test c
+  abbrev omitted : ℕ → (ℕ → Bool) → ℕ → Bool
+  omitted a test c = not (nat_eq c a) && test c
 
   -- a path never comes to a node after its start, or its part after the last time is one that starts there and never does
-  leaves : (test : ℕ → Bool) (a : ℕ) (xs : List X) (c b : ℕ) → IsPathIn test xs c b → IsPathIn (but a test) xs c b ⊎ ((ys : List X) × IsPathIn (but a test) ys a b)
+  leaves : (test : ℕ → Bool) (a : ℕ) (xs : List X) (c b : ℕ) → IsPathIn test xs c b → IsPathIn (omitted a test) xs c b ⊎ ((ys : List X) × IsPathIn (omitted a test) ys a b)
   leaves test a [] c b path = inl path
   leaves test a (x ∷ xs) c b path = elim (leaves test a xs path.0 b path.3) [
     | inr found ↦ inr found
     | inl rest ↦ elim (cases_eq path.0 a) [
-      | inl same ↦ inr (xs, subst (λ (d : ℕ). IsPathIn (but a test) xs d b) same rest)
+      | inl same ↦ inr (xs, subst (λ (d : ℕ). IsPathIn (omitted a test) xs d b) same rest)
       | inr other ↦ inl (path.0, path.1, other_passes path.0 other path.2, rest)
     ]
   ]
     where
-      other_passes : (d : ℕ) → (d ≡ a → ⊥) → test d ≡ true → but a test d ≡ true
+      other_passes : (d : ℕ) → (d ≡ a → ⊥) → test d ≡ true → omitted a test d ≡ true
       other_passes d other passes = elim (nat_eq d a) as (λ e. nat_eq d a ≡ e → (not e && test d) ≡ true) [
         | true ↦ λ e. absurd (other (eqb-true d a e))
         | false ↦ λ e. passes
       ] refl
 
   -- one node fewer passes
-  fewer : (n : ℕ) (test : ℕ → Bool) (a : ℕ) → a < n → test a ≡ true → count (but a test) n < count test n
-  fewer n test a la passes = count-more (but a test) test n a la (ap (λ (e : Bool). not e && test a) (eq-eqb a a refl)) passes (λ k lk e. others (nat_eq k a) (test k) e)
+  fewer : (n : ℕ) (test : ℕ → Bool) (a : ℕ) → a < n → test a ≡ true → count (omitted a test) n < count test n
+  fewer n test a la passes = count-more (omitted a test) test n a la (ap (λ (e : Bool). not e && test a) (eq-eqb a a refl)) passes (λ k lk e. others (nat_eq k a) (test k) e)
     where
       others : (e t : Bool) → (not e && t) ≡ true → t ≡ true
       others true t h = absurd cc
       others false t h = h
 
   -- a path that never comes back to its start, where what follows the first step can be shorter than a number
-  from_start : (test : ℕ → Bool) (k a b : ℕ) → ((c : ℕ) (x : X) (xs : List X) → Leads x a c → but a test c ≡ true → IsPathIn (but a test) xs c b → (ys : List X) × IsPath ys c b × (length ys < k))
-      → (xs : List X) → IsPathIn (but a test) xs a b → (ys : List X) × IsPath ys a b × (length ys < suc k)
+  from_start : (test : ℕ → Bool) (k a b : ℕ) → ((c : ℕ) (x : X) (xs : List X) → Leads x a c → omitted a test c ≡ true → IsPathIn (omitted a test) xs c b → (ys : List X) × IsPath ys c b × (length ys < k))
+      → (xs : List X) → IsPathIn (omitted a test) xs a b → (ys : List X) × IsPath ys a b × (length ys < suc k)
   from_start test k a b short [] path = ([], path, omega arith)
   from_start test k a b short (x ∷ xs) path =
       let rest = short path.0 x xs path.1 path.2 path.3 in
@@ -70,7 +70,7 @@ module _ {X : Type 0} (Leads : X → ℕ → ℕ → Type 0) where
   shorter n inside zero test a b xs few la passes path = let less = fewer n test a la passes in absurd (omega arith)
   shorter n inside (suc k) test a b xs few la passes path =
       let less = fewer n test a la passes in
-      let short = from_start test k a b (λ c x ys leads other rest. shorter n inside k (but a test) c b ys (omega arith) (inside x a c leads) other rest) in
+      let short = from_start test k a b (λ c x ys leads other rest. shorter n inside k (omitted a test) c b ys (omega arith) (inside x a c leads) other rest) in
       elim (leaves test a xs a b path) [
         | inl rest ↦ short xs rest
         | inr found ↦ short found.0 found.1

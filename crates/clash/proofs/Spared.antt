@@ -18,8 +18,8 @@ use Rattle.net_core.specs.declared.atom.Atom.{Atom}
 use Rattle.net_core.proofs.StepLaws.{fits_fewer}
 use Rattle.order_closure.specs.Tables.{AreInRange}
 use Rattle.clash.specs.Minimal.{IsMarkedWalk, IsSpared}
-use Rattle.net_orders.specs.Orders.{AreBelow, AreFixed, FitsBut}
-use Rattle.net_orders.specs.Raising.{AreLow, AreWithin, Rises}
+use Rattle.net_orders.specs.Orders.{AreOrdersBelow, AreFixed, FitsBut}
+use Rattle.net_orders.specs.Raising.{AreLow, AreRanksWithin, RanksRise}
 use Rattle.net_orders.specs.declared.orders.Order.{Order}
 use Rattle.net_orders.proofs.Zeros.{least_from_zeros, zeros_size, zeros_under, zeros_within}
 use Rattle.clash.specs.declared.closed_walk.ClosedWalk.{ClosedWalk}
@@ -28,75 +28,75 @@ use Rattle.clash.proofs.WalkBut.{fits_but}
 
 -- whether a link is one of those that are marked, and another one
 is_other : List Bool → ℕ → ℕ → Bool
-is_other marks but k = slice_index_or marks k false && not (k == but)
+is_other marks omitted k = slice_index_or marks k false && not (k == omitted)
 
-others : (marks : List Bool) (but k : ℕ) → (is_other marks but k ≡ true) ↔ Others (Kept marks) but k
+others : (marks : List Bool) (omitted k : ℕ) → (is_other marks omitted k ≡ true) ↔ Others (Kept marks) omitted k
 unfolding is_other
-others marks but k = both (slice_index_or marks k false)
+others marks omitted k = both (slice_index_or marks k false)
   where
-    both : (mark : Bool) → ((mark && not (k == but)) ≡ true) ↔ ((mark ≡ true) × (k ≢ but))
+    both : (mark : Bool) → ((mark && not (k == omitted)) ≡ true) ↔ ((mark ≡ true) × (k ≢ omitted))
     both true = grind (arith, nat_tests)
     both false = (λ e. absurd cc, λ e. absurd (let f = e.0 in cc))
 
--- zeros can be raised by the orders of a round and by those that are fixed
-pub zeros_ready : (net : PlainNet) (round : ClosedWalk) (fixed : List Atom) (orders : List Order) (zeros : List ℕ) → IsNet net → IsMarkedWalk net round → AreFixed net fixed
-    → orders ≡ round.orders → zeros ≡ replicate (points net) 0
-    → AreBelow (length zeros) orders × AreInRange (length zeros) fixed × (length zeros ≤ max_points) × AreWithin zeros
-zeros_ready net round fixed orders zeros net_is is are same e =
+-- zeros can be raised by the orders of a closed walk and by those that are fixed
+pub zeros_ready : (net : PlainNet) (closed : ClosedWalk) (fixed : List Atom) (orders : List Order) (zeros : List ℕ) → IsNet net → IsMarkedWalk net closed → AreFixed net fixed
+    → orders ≡ closed.orders → zeros ≡ replicate (points net) 0
+    → AreOrdersBelow (length zeros) orders × AreInRange (length zeros) fixed × (length zeros ≤ max_points) × AreRanksWithin zeros
+zeros_ready net closed fixed orders zeros net_is is are same e =
     let size = sym (zeros_size (points net) zeros e) in
     let few = net_is.few_intervals in (
-      subst (λ (n : ℕ). AreBelow n orders) size (subst (AreBelow (points net)) (sym same) is.orders.in_range),
+      subst (λ (n : ℕ). AreOrdersBelow n orders) size (subst (AreOrdersBelow (points net)) (sym same) is.orders.in_range),
       subst (λ (n : ℕ). AreInRange n fixed) size are.in_range,
       omega (arith, size),
       zeros_within (points net) zeros e,
     )
 
-module _ (net : PlainNet) (round : ClosedWalk) (fixed : List Atom) (but : ℕ) (net_is : IsNet net) (is : IsMarkedWalk net round) (are : AreFixed net fixed) (spared : IsSpared net (Kept round.over.items) but) where
+module _ (net : PlainNet) (closed : ClosedWalk) (fixed : List Atom) (omitted : ℕ) (net_is : IsNet net) (is : IsMarkedWalk net closed) (are : AreFixed net fixed) (spared : IsSpared net (Kept closed.over.items) omitted) where
   abbrev Rest : ℕ → Type 0
-  Rest = Others (Kept round.over.items) but
+  Rest = Others (Kept closed.over.items) omitted
 
   -- a timeline that fits with the other links, and has small ranks
   small : (t : Timeline) × FitsWith net Rest t × ((p : ℕ) → p < points net → t p < points net)
   small =
-      let test = is_other round.over.items but in
+      let test = is_other closed.over.items omitted in
       let one = small_timeline net test net_is spared.0
-      (fits_fewer net Rest (λ k. test k ≡ true) spared.0 (λ k below. (others round.over.items but k).0) spared.1) in
-      (one.0, fits_fewer net (λ k. test k ≡ true) Rest one.0 (λ k below. (others round.over.items but k).1) one.1, one.2)
+      (fits_fewer net Rest (λ k. test k ≡ true) spared.0 (λ k below. (others closed.over.items omitted k).0) spared.1) in
+      (one.0, fits_fewer net (λ k. test k ≡ true) Rest one.0 (λ k below. (others closed.over.items omitted k).1) one.1, one.2)
 
   -- ranks that rose from zeros are low
-  pub low_from_zeros : (zeros ranks : List ℕ) → zeros ≡ replicate (points net) 0 → Rises (FitsBut round.orders fixed but) zeros ranks → AreLow ranks
+  pub low_from_zeros : (zeros ranks : List ℕ) → zeros ≡ replicate (points net) 0 → RanksRise (FitsBut closed.orders fixed omitted) zeros ranks → AreLow ranks
   low_from_zeros zeros ranks e rises p =
       let size = zeros_size (points net) zeros e in
       let long = rises.size in
       let few = net_is.few_intervals in
       elim (cases_lt p (length ranks)) [
         | inl lt ↦
-            let under = rises.under small.0 ((fits_but net round fixed but is are small.0).0 small.1) (zeros_under (points net) zeros e small.0) p lt in
+            let under = rises.under small.0 ((fits_but net closed fixed omitted is are small.0).0 small.1) (zeros_under (points net) zeros e small.0) p lt in
             let below = small.2 p (omega arith) in
             omega arith
         | inr past ↦ omega (arith, get_or_past ranks p 0 past)
       ]
 
   -- zeros that rise until they fit are the least ranks
-  pub spare_of_zeros : (zeros ranks : List ℕ) → zeros ≡ replicate (points net) 0 → Rises (FitsBut round.orders fixed but) zeros ranks → FitsBut round.orders fixed but (timeline_of ranks)
-      → IsSpare net (Kept round.over.items) but ranks
+  pub spare_of_zeros : (zeros ranks : List ℕ) → zeros ≡ replicate (points net) 0 → RanksRise (FitsBut closed.orders fixed omitted) zeros ranks → FitsBut closed.orders fixed omitted (timeline_of ranks)
+      → IsSpare net (Kept closed.over.items) omitted ranks
   spare_of_zeros zeros ranks e rises fits =
-      let least = least_from_zeros (points net) zeros e (FitsBut round.orders fixed but) ranks rises fits in
-      let under = λ (u : Timeline) (holds : FitsWith net Rest u). least.1.least u ((fits_but net round fixed but is are u).0 holds) in
+      let least = least_from_zeros (points net) zeros e (FitsBut closed.orders fixed omitted) ranks rises fits in
+      let under = λ (u : Timeline) (holds : FitsWith net Rest u). least.1.least u ((fits_but net closed fixed omitted is are u).0 holds) in
       record {
         size = least.0;
         least = record {
-          holds = (fits_but net round fixed but is are (timeline_of ranks)).1 least.1.holds;
+          holds = (fits_but net closed fixed omitted is are (timeline_of ranks)).1 least.1.holds;
           least = under;
         };
         small = λ p lt. let below = under small.0 small.1 p lt in let few = small.2 p lt in omega arith;
       }
 
 -- zeros that rise until they fit are the least ranks, and so a timeline fits
-pub spare_from_zeros : (net : PlainNet) (round : ClosedWalk) (fixed : List Atom) (but : ℕ) (zeros ranks : List ℕ) → IsNet net → IsMarkedWalk net round → AreFixed net fixed
-    → zeros ≡ replicate (points net) 0 → Rises (FitsBut round.orders fixed but) zeros ranks → FitsBut round.orders fixed but (timeline_of ranks) → IsSpare net (Kept round.over.items) but ranks
-spare_from_zeros net round fixed but zeros ranks net_is is are e rises fits =
-    spare_of_zeros net round fixed but net_is is are (timeline_of ranks, (fits_but net round fixed but is are (timeline_of ranks)).1 fits) zeros ranks e rises fits
+pub spare_from_zeros : (net : PlainNet) (closed : ClosedWalk) (fixed : List Atom) (omitted : ℕ) (zeros ranks : List ℕ) → IsNet net → IsMarkedWalk net closed → AreFixed net fixed
+    → zeros ≡ replicate (points net) 0 → RanksRise (FitsBut closed.orders fixed omitted) zeros ranks → FitsBut closed.orders fixed omitted (timeline_of ranks) → IsSpare net (Kept closed.over.items) omitted ranks
+spare_from_zeros net closed fixed omitted zeros ranks net_is is are e rises fits =
+    spare_of_zeros net closed fixed omitted net_is is are (timeline_of ranks, (fits_but net closed fixed omitted is are (timeline_of ranks)).1 fits) zeros ranks e rises fits
 
 -- where there is a spare for each of some links, each of them is needed
 pub spares_needed : (net : PlainNet) (Chosen : ℕ → Type 0) (cites : List ℕ) (spares : List (List ℕ)) → AreSpares net Chosen cites spares → (k : ℕ) → Contains cites k → IsSpared net Chosen k

@@ -17,27 +17,27 @@ use Rattle.net_orders.specs.Orders.{AreFixed, FitsBut, HoldsBut}
 use Rattle.clash.specs.declared.closed_walk.ClosedWalk.{ClosedWalk}
 use Rattle.net_orders.proofs.StepsBut.{no_step}
 
-module _ (net : PlainNet) (round : ClosedWalk) (fixed : List Atom) (but : ℕ) (is : IsMarkedWalk net round) (are : AreFixed net fixed) where
+module _ (net : PlainNet) (closed : ClosedWalk) (fixed : List Atom) (omitted : ℕ) (is : IsMarkedWalk net closed) (are : AreFixed net fixed) where
   -- what a step of the walk is over holds where the other links do
-  held : (t : Timeline) (step : Step) → FitsWith net (Others (Kept round.over.items) but) t → Contains round.walk step → HoldsBut net but step t
+  held : (t : Timeline) (step : Step) → FitsWith net (Others (Kept closed.over.items) omitted) t → Contains closed.walk step → HoldsBut net omitted step t
   held t (Link k i) fits has = λ other within. fits.links k within ((is.over k within).1 (Link k i, has, refl), other)
-  held t (Span i) fits has = λ a e. step_kept net (Others (Kept round.over.items) but) t (Span i) a fits (e, tt)
-  held t (Calendar p q) fits has = λ a e. step_kept net (Others (Kept round.over.items) but) t (Calendar p q) a fits (e, tt)
+  held t (Span i) fits has = λ a e. step_kept net (Others (Kept closed.over.items) omitted) t (Span i) a fits (e, tt)
+  held t (Calendar p q) fits has = λ a e. step_kept net (Others (Kept closed.over.items) omitted) t (Calendar p q) a fits (e, tt)
 
   -- a link that a step goes over holds where what the step is over does
-  link_held : (t : Timeline) (k : ℕ) (step : Step) → link_of step ≡ Some k → k ≢ but → k < length net.links → HoldsBut net but step t → KeepsLink net t k
+  link_held : (t : Timeline) (k : ℕ) (step : Step) → link_of step ≡ Some k → k ≢ omitted → k < length net.links → HoldsBut net omitted step t → KeepsLink net t k
   link_held t k (Link j i) e other within holds =
       let same : j ≡ k = cc in
-      subst (KeepsLink net t) same (subst (λ (n : ℕ). n ≢ but → n < length net.links → KeepsLink net t j) same holds other within)
+      subst (KeepsLink net t) same (subst (λ (n : ℕ). n ≢ omitted → n < length net.links → KeepsLink net t j) same holds other within)
   link_held t k (Span i) e other within holds = absurd cc
   link_held t k (Calendar p q) e other within holds = absurd cc
 
   -- the other links hold exactly where all orders are true but those of one link
-  pub fits_but : (t : Timeline) → FitsWith net (Others (Kept round.over.items) but) t ↔ FitsBut round.orders fixed but t
+  pub fits_but : (t : Timeline) → FitsWith net (Others (Kept closed.over.items) omitted) t ↔ FitsBut closed.orders fixed omitted t
   fits_but t = (
     λ fits. record {
-      held = (is.orders.exact but t).1 (All-from_get_or (λ (step : Step). HoldsBut net but step t) round.walk no_step (λ i lt.
-          held t (get_or round.walk i no_step) fits (Contains-get_or round.walk i no_step lt)));
+      held = (is.orders.exact omitted t).1 (All-from_get_or (λ (step : Step). HoldsBut net omitted step t) closed.walk no_step (λ i lt.
+          held t (get_or closed.walk i no_step) fits (Contains-get_or closed.walk i no_step lt)));
       kept = (are.exact t).1 (fits.order, fits.calendar);
     },
     λ all.
@@ -46,7 +46,7 @@ module _ (net : PlainNet) (round : ClosedWalk) (fixed : List Atom) (but : ℕ) (
           order = both.0;
           links = λ k within chosen.
               let over = (is.over k within).0 chosen.0 in
-              link_held t k over.0 over.2 chosen.1 within (All-contains (λ (step : Step). HoldsBut net but step t) round.walk over.0 ((is.orders.exact but t).0 all.held) over.1);
+              link_held t k over.0 over.2 chosen.1 within (All-contains (λ (step : Step). HoldsBut net omitted step t) closed.walk over.0 ((is.orders.exact omitted t).0 all.held) over.1);
           calendar = both.1;
         },
   )

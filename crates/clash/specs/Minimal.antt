@@ -26,12 +26,12 @@ pub record IsFirstClash (net : PlainNet) (k : ℕ) : Type 0 where
   pub clashes : Clashes net (UpTo k)
 
 -- A closed walk over exactly the links that are marked, in at most twice as many steps as there are points, and the orders that its steps are over.
-pub record IsMarkedWalk (net : PlainNet) (round : ClosedWalk) : Type 0 where
-  pub size : length round.over.items ≡ length net.links
-  pub goes : IsClosedWalk net (Kept round.over.items) round.walk
-  pub over : (k : ℕ) → k < length net.links → Kept round.over.items k ↔ GoesOver round.walk k
-  pub short : length round.walk ≤ 2 * points net
-  pub orders : AreStepOrders net round.walk round.orders
+pub record IsMarkedWalk (net : PlainNet) (closed : ClosedWalk) : Type 0 where
+  pub size : length closed.over.items ≡ length net.links
+  pub goes : IsClosedWalk net (Kept closed.over.items) closed.walk
+  pub over : (k : ℕ) → k < length net.links → Kept closed.over.items k ↔ GoesOver closed.walk k
+  pub short : length closed.walk ≤ 2 * points net
+  pub orders : AreStepOrders net closed.walk closed.orders
 
 -- a timeline fits with the links of a set but one
 abbrev pub IsSpared : PlainNet → (ℕ → Type 0) → ℕ → Type 0
@@ -41,7 +41,7 @@ IsSpared net Chosen k = HasTimelineWith net (Others Chosen k)
 pub record IsProvedClash (net : PlainNet) (clash : Clash) : Type 0 where
   pub rising : IsStrictlyIncreasing clash.cites
   pub minimal : IsMinimalClash net clash.cites
-  pub round : IsClosedOver net clash.cites clash.walk
+  pub closed : IsClosedOver net clash.cites clash.walk
   pub short : length clash.walk ≤ 2 * points net
   pub spares : AreSpares net (Contains clash.cites) clash.cites clash.spares
 

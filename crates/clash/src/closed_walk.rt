@@ -30,8 +30,8 @@ impl ClosedWalk {
     pub fn new(alloc: Global, net: &Net, walk: Walk) -> Result<ClosedWalk, Memory>
         requires goes { IsClosedWalk net.now EveryLink walk }
         requires short { length walk ≤ 2 * points net.now }
-        ensures round { IfOk result (IsMarkedWalk net.now) }
-        ensures walk { IfOk result (λ round. round.walk ≡ walk) }
+        ensures closed { IfOk result (IsMarkedWalk net.now) }
+        ensures walk { IfOk result (λ closed. closed.walk ≡ walk) }
     {
         let Ok(mut over) = vec![in alloc; false; net.links() as usize] else {
             return Err(Memory);
@@ -48,18 +48,18 @@ impl ClosedWalk {
         alloc: Global,
         net: &Net,
         fixed: &[Atom],
-        but: u32,
+        omitted: u32,
         turns: u32,
     ) -> Result<Option<Ranks>, Memory>
-        requires round { IsMarkedWalk net.now self.now }
+        requires closed { IsMarkedWalk net.now self.now }
         requires fixed { AreFixed net.now fixed.now }
-        ensures some { IfOk result (λ found. IfSome found (IsSpare net.now (Kept self.now.over.items) but)) }
-        ensures none { IfOk result (λ found. IfNone found (turns ≡ u32.MAX → IsSpared net.now (Kept self.now.over.items) but → ⊥)) }
+        ensures some { IfOk result (λ found. IfSome found (IsSpare net.now (Kept self.now.over.items) omitted)) }
+        ensures none { IfOk result (λ found. IfNone found (turns ≡ u32.MAX → IsSpared net.now (Kept self.now.over.items) omitted → ⊥)) }
     {
         let Ok(mut ranks) = vec![in alloc; 0u32; 2 * net.intervals() as usize] else {
             return Err(Memory);
         };
-        if settle(self.orders.as_slice(), fixed, but, &mut ranks, turns) {
+        if settle(self.orders.as_slice(), fixed, omitted, &mut ranks, turns) {
             Ok(Some(Ranks::from_vec(ranks)))
         } else {
             Ok(None)
@@ -76,13 +76,13 @@ impl ClosedWalk {
         link: u32,
         needed: u32,
     ) -> Result<(), Memory>
-        requires round { IsMarkedWalk net.now self.old }
+        requires closed { IsMarkedWalk net.now self.old }
         requires fixed { AreFixed net.now fixed.now }
         requires link { Kept self.old.over.items link }
         requires needed { needed < length net.now.links }
         requires other { link ≢ needed }
         requires spared { IsSpared net.now (Kept self.old.over.items) needed }
-        ensures round { OnOk result (IsMarkedWalk net.now self.new) }
+        ensures closed { OnOk result (IsMarkedWalk net.now self.new) }
         ensures fewer { OnOk result ((k : ℕ) → Kept self.new.over.items k → Kept self.old.over.items k) }
         ensures spared { OnOk result (Kept self.new.over.items link → IsSpared net.now (Kept self.new.over.items) link) }
     {
@@ -91,7 +91,7 @@ impl ClosedWalk {
         }
         prove!(needed < net.links());
         self.over[link as usize] = false;
-        match round_over(alloc, net, &self.over, needed)? {
+        match closed_walk_over(alloc, net, &self.over, needed)? {
             Some(walk) => *self = ClosedWalk::new(alloc, net, walk)?,
             None => self.over[link as usize] = true,
         }
@@ -112,19 +112,19 @@ pub fn thin(
     needed: u32,
 ) -> Result<ClosedWalk, Memory>
     requires fixed { AreFixed net.now fixed.now }
-    requires round { IsMarkedWalk net.now first }
+    requires closed { IsMarkedWalk net.now first }
     requires needed { needed < length net.now.links }
     requires spared { IsSpared net.now (Kept first.over.items) needed }
-    ensures round { IfOk result (IsMarkedWalk net.now) }
-    ensures spared { IfOk result (λ round. (k : ℕ) → Kept round.over.items k → IsSpared net.now (Kept round.over.items) k) }
+    ensures closed { IfOk result (IsMarkedWalk net.now) }
+    ensures spared { IfOk result (λ closed. (k : ℕ) → Kept closed.over.items k → IsSpared net.now (Kept closed.over.items) k) }
 {
-    let mut round = first;
+    let mut closed = first;
     for link in 0..net.links() {
-        if link != needed && round.over[link as usize] {
-            round.leave_out(alloc, net, fixed, link, needed)?;
+        if link != needed && closed.over[link as usize] {
+            closed.leave_out(alloc, net, fixed, link, needed)?;
         }
     }
-    Ok(round)
+    Ok(closed)
 }
 
 /// A closed walk over links that are kept. None comes only where no such walk goes over the link of this number.
@@ -132,7 +132,7 @@ pub fn thin(
 /// # Errors
 ///
 /// Out of memory.
-pub fn round_over(
+pub fn closed_walk_over(
     alloc: Global,
     net: &Net,
     keep: &[bool],

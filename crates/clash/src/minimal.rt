@@ -8,7 +8,7 @@ ghost use Rattle.net_core.specs.Nets.{points};
 ghost use Rattle.order_closure.specs.Tables.{AreInRange};
 ghost use Rattle.std.specs.Prelude.{IfOk, IfSome, length, ℕ, ◌<◌, ◌≡◌, ◌↔◌};
 
-use crate::closed_walk::{ClosedWalk, TURNS, round_over, thin};
+use crate::closed_walk::{ClosedWalk, TURNS, closed_walk_over, thin};
 use crate::spares::{spares_of, spares_soon};
 use net_core::{Atom, List, Memory, Net, Ranks, Walk};
 use net_orders::first_unsettled;
@@ -47,14 +47,14 @@ pub fn clash_soon(
         return Ok(None);
     };
     let keep = up_to(alloc, net, link)?;
-    let Some(walk) = round_over(alloc, net, &keep, link)? else {
+    let Some(walk) = closed_walk_over(alloc, net, &keep, link)? else {
         return Ok(None);
     };
-    let round = ClosedWalk::new(alloc, net, walk)?;
-    let Some(_) = round.spare(alloc, net, fixed, link, TURNS)? else {
+    let closed = ClosedWalk::new(alloc, net, walk)?;
+    let Some(_) = closed.spare(alloc, net, fixed, link, TURNS)? else {
         return Ok(None);
     };
-    let clash = clash_of(alloc, net, fixed, round, link)?;
+    let clash = clash_of(alloc, net, fixed, closed, link)?;
     Ok(Some(clash))
 }
 
@@ -68,7 +68,7 @@ pub fn clash_up_to(alloc: Global, net: &Net, fixed: &[Atom], link: u32) -> Resul
     requires first { IsFirstClash net.now link }
     ensures { IfOk result (IsProvedClash net.now) }
 {
-    let first = first_round(alloc, net, link)?;
+    let first = first_closed_walk(alloc, net, link)?;
     clash_of(alloc, net, fixed, first, link)
 }
 
@@ -81,7 +81,7 @@ fn clash_of(
     needed: u32,
 ) -> Result<Clash, Memory>
     requires fixed { AreFixed net.now fixed.now }
-    requires round { IsMarkedWalk net.now first }
+    requires closed { IsMarkedWalk net.now first }
     requires needed { needed < length net.now.links }
     requires spared { IsSpared net.now (Kept first.over.items) needed }
     ensures { IfOk result (IsProvedClash net.now) }
@@ -94,25 +94,25 @@ fn clash_of(
             spares,
         });
     }
-    let round = thin(alloc, net, fixed, first, needed)?;
-    let cites = marked(alloc, net, &round.over)?;
-    let spares = spares_of(alloc, net, fixed, &round, cites.as_slice())?;
+    let closed = thin(alloc, net, fixed, first, needed)?;
+    let cites = marked(alloc, net, &closed.over)?;
+    let spares = spares_of(alloc, net, fixed, &closed, cites.as_slice())?;
     Ok(Clash {
         cites,
-        walk: round.walk,
+        walk: closed.walk,
         spares,
     })
 }
 
 /// A closed walk over links up to this one.
-fn first_round(alloc: Global, net: &Net, link: u32) -> Result<ClosedWalk, Memory>
+fn first_closed_walk(alloc: Global, net: &Net, link: u32) -> Result<ClosedWalk, Memory>
     requires { IsFirstClash net.now link }
-    ensures round { IfOk result (IsMarkedWalk net.now) }
-    ensures spared { IfOk result (λ round. IsSpared net.now (Kept round.over.items) link) }
+    ensures closed { IfOk result (IsMarkedWalk net.now) }
+    ensures spared { IfOk result (λ closed. IsSpared net.now (Kept closed.over.items) link) }
 {
     prove!(link < net.links());
     let keep = up_to(alloc, net, link)?;
-    match round_over(alloc, net, &keep, link)? {
+    match closed_walk_over(alloc, net, &keep, link)? {
         Some(walk) => ClosedWalk::new(alloc, net, walk),
         None => unreachable!(),
     }

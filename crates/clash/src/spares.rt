@@ -19,17 +19,17 @@ pub fn spares_of(
     alloc: Global,
     net: &Net,
     fixed: &[Atom],
-    round: &ClosedWalk,
+    closed: &ClosedWalk,
     cites: &[u32],
 ) -> Result<List<Ranks>, Memory>
     requires fixed { AreFixed net.now fixed.now }
-    requires round { IsMarkedWalk net.now round.now }
-    requires spared { All (IsSpared net.now (Kept round.now.over.items)) cites.now }
-    ensures { IfOk result (AreSpares net.now (Kept round.now.over.items) cites.now) }
+    requires closed { IsMarkedWalk net.now closed.now }
+    requires spared { All (IsSpared net.now (Kept closed.now.over.items)) cites.now }
+    ensures { IfOk result (AreSpares net.now (Kept closed.now.over.items) cites.now) }
 {
     let mut spares = List::new(alloc);
     for cite in cites {
-        let spare = spare_of(alloc, net, fixed, round, *cite)?;
+        let spare = spare_of(alloc, net, fixed, closed, *cite)?;
         spares.push(spare)?;
     }
     Ok(spares)
@@ -44,16 +44,16 @@ pub fn spares_soon(
     alloc: Global,
     net: &Net,
     fixed: &[Atom],
-    round: &ClosedWalk,
+    closed: &ClosedWalk,
     cites: &[u32],
 ) -> Result<Option<List<Ranks>>, Memory>
     requires fixed { AreFixed net.now fixed.now }
-    requires round { IsMarkedWalk net.now round.now }
-    ensures { IfOk result (λ found. IfSome found (AreSpares net.now (Kept round.now.over.items) cites.now)) }
+    requires closed { IsMarkedWalk net.now closed.now }
+    ensures { IfOk result (λ found. IfSome found (AreSpares net.now (Kept closed.now.over.items) cites.now)) }
 {
     let mut spares = List::new(alloc);
     for cite in cites {
-        match round.spare(alloc, net, fixed, *cite, TURNS)? {
+        match closed.spare(alloc, net, fixed, *cite, TURNS)? {
             Some(spare) => spares.push(spare)?,
             None => return Ok(None),
         }
@@ -66,15 +66,15 @@ fn spare_of(
     alloc: Global,
     net: &Net,
     fixed: &[Atom],
-    round: &ClosedWalk,
-    but: u32,
+    closed: &ClosedWalk,
+    omitted: u32,
 ) -> Result<Ranks, Memory>
     requires fixed { AreFixed net.now fixed.now }
-    requires round { IsMarkedWalk net.now round.now }
-    requires spared { IsSpared net.now (Kept round.now.over.items) but }
-    ensures { IfOk result (IsSpare net.now (Kept round.now.over.items) but) }
+    requires closed { IsMarkedWalk net.now closed.now }
+    requires spared { IsSpared net.now (Kept closed.now.over.items) omitted }
+    ensures { IfOk result (IsSpare net.now (Kept closed.now.over.items) omitted) }
 {
-    match round.spare(alloc, net, fixed, but, u32::MAX)? {
+    match closed.spare(alloc, net, fixed, omitted, u32::MAX)? {
         Some(ranks) => Ok(ranks),
         None => unreachable!(),
     }

@@ -1,5 +1,5 @@
 //! The report of a wrong answer.
-use crate::answer::Answer;
+use crate::answer::WrittenAnswer;
 use crate::command::Command;
 use anyhow::Result;
 use std::alloc::{AllocError, Global};
@@ -13,7 +13,7 @@ pub fn report(
     command: &Command,
     wanted: &[u8],
     status: u8,
-    answer: &Answer,
+    answer: &WrittenAnswer,
 ) -> Result<()> {
     let number = command.number;
     let line = command.line.as_str();

@@ -1,5 +1,5 @@
 //! A table of cases, which is read and tried line by line.
-use crate::answer::{Answer, run_words};
+use crate::answer::{WrittenAnswer, run_words};
 use crate::command::Command;
 use crate::devices::Devices;
 use crate::line::{Line, Piece, line_of};
@@ -255,7 +255,7 @@ impl Table {
     }
 
     /// Where the text of an answer goes to a file, it becomes that file, and none is left.
-    fn redirect(&mut self, command: &Command, answer: Answer) -> Result<Answer> {
+    fn redirect(&mut self, command: &Command, answer: WrittenAnswer) -> Result<WrittenAnswer> {
         let Some(name) = &command.kept_as else {
             return Ok(answer);
         };
@@ -263,7 +263,7 @@ impl Table {
             name: name.clone()?,
             text: answer.text,
         })?;
-        Ok(Answer {
+        Ok(WrittenAnswer {
             status: answer.status,
             text: Vec::new(self.alloc),
         })

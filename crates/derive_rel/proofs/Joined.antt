@@ -4,7 +4,7 @@ use Rattle.std.proofs.lemmas.Bool.{cases_lt}
 use Rattle.std.proofs.lemmas.List.{get_or_append_left, get_or-append_right}
 use Rattle.std.proofs.lemmas.List.Elements.{All-append, All-cons, All-nil, All-weaker, Contains-append_left, Contains-append_right}
 use Rattle.net_core.specs.declared.rels.Rel.TheVariants as rel
-use Rattle.derive_rel.specs.Entailed.{AreAll, ComesBefore, row_at}
+use Rattle.derive_rel.specs.Entailed.{AreAllRows, ComesBefore, row_at}
 use Rattle.derive_rel.specs.Pushing.{ArePutLast, AreRowsWhere}
 use Rattle.derive_rel.specs.declared.all_rows.Row.{Row}
 
@@ -98,8 +98,8 @@ module _ (Kind : Row → Type 0) where
   same_put P Q old new same put = (put.0, put.1, same_rows P Q put.0 same put.2)
 
   -- where all rows of the kind are put after none, they are all
-  pub all_rows : (P : Row → Type 0) (rows : List Row) → ((row : Row) → Kind row → P row) → ArePutLast Kind P [] rows → AreAll Kind rows
-  all_rows P rows all put = subst (AreAll Kind) (sym put.1) (record {
+  pub all_rows : (P : Row → Type 0) (rows : List Row) → ((row : Row) → Kind row → P row) → ArePutLast Kind P [] rows → AreAllRows Kind rows
+  all_rows P rows all put = subst (AreAllRows Kind) (sym put.1) (record {
     right = All-weaker (λ (row : Row). Kind row × P row) Kind (λ row both. both.0) put.0 put.2.right;
     whole = λ row is. put.2.whole row (is, all row is);
     sorted = put.2.sorted;

@@ -9,7 +9,7 @@ use Rattle.named.proofs.Lists.{each_weaker}
 use Rattle.net_core.specs.Rels.{all_rels, rel_text}
 use Rattle.net_core.specs.declared.rels.Rel.{Rel}
 use Rattle.net_core.specs.declared.rels.Rel.TheVariants as rel
-use Rattle.derive_rel.specs.Entailed.{AreAll, ComesBefore, StandsBefore, row_at}
+use Rattle.derive_rel.specs.Entailed.{AreAllRows, ComesBefore, StandsBefore, row_at}
 use Rattle.derive_rel.specs.declared.all_rows.Row.{Row}
 
 -- ---- the order of rows
@@ -147,7 +147,7 @@ same_list (x ∷ xs) (y ∷ ys) left right into back =
     λ i. first i ∷ rest i
 
 -- the rows that meet a condition make one list
-pub one_list : (P : Row → Type 0) (xs ys : List Row) → AreAll P xs → AreAll P ys → xs ≡ ys
+pub one_list : (P : Row → Type 0) (xs ys : List Row) → AreAllRows P xs → AreAllRows P ys → xs ≡ ys
 one_list P xs ys left right = same_list xs ys (sorted xs left.sorted) (sorted ys right.sorted)
     (λ x (k, lt, e). right.whole x (subst P e (All-get_or P xs k x lt left.right)))
     (λ x (k, lt, e). left.whole x (subst P e (All-get_or P ys k x lt right.right)))

@@ -22,7 +22,7 @@ use Rattle.order_closure.specs.declared.cell.Cell.{Cell}
 use Rattle.order_closure.specs.declared.cell.Cell.TheVariants.{Free, Weak, Strict}
 use Rattle.derive_rel.specs.Entailed.{TableEntails, IsRow}
 use Rattle.derive_rel.specs.Pairs.{gives, says_some}
-use Rattle.derive_rel.specs.Pushing.{ArePutLast, IsOf}
+use Rattle.derive_rel.specs.Pushing.{ArePutLast, IsRowOf}
 use Rattle.derive_rel.specs.declared.all_rows.Row.{Row}
 use Rattle.derive_rel.proofs.Joined.{none_put, one_put, same_put}
 
@@ -126,20 +126,20 @@ module _ (table : Table) (a b : ℕ) where
     row = record { a = a; rel = alone; b = b }
 
     -- it is put last where it holds
-    pub one_alone : a < b → 2 * b + 1 < table.points → TableEntails table a alone b → ArePutLast (IsRow table) (IsOf a b) rows (rows ++ row ∷ [])
+    pub one_alone : a < b → 2 * b + 1 < table.points → TableEntails table a alone b → ArePutLast (IsRow table) (IsRowOf a b) rows (rows ++ row ∷ [])
     one_alone less within entails =
-        same_put (IsRow table) (λ (other : Row). other ≡ row) (IsOf a b) rows (rows ++ row ∷ [])
+        same_put (IsRow table) (λ (other : Row). other ≡ row) (IsRowOf a b) rows (rows ++ row ∷ [])
         (λ other is. (λ same. (ap (λ (x : Row). x.a) same, ap (λ (x : Row). x.b) same), λ of. λ i. record { a = of.0 i; rel = rel_is other is of i; b = of.1 i }))
         (one_put (IsRow table) rows row (less, within, entails))
       where
-        rel_is : (other : Row) → IsRow table other → IsOf a b other → other.rel ≡ alone
+        rel_is : (other : Row) → IsRow table other → IsRowOf a b other → other.rel ≡ alone
         rel_is other is of = only other.rel (subst (λ (n : ℕ). TableEntails table n other.rel b) of.0 (subst (λ (n : ℕ). TableEntails table other.a other.rel n) of.1 is.2))
 
     -- and nothing where it does not
-    pub none_alone : (TableEntails table a alone b → ⊥) → ArePutLast (IsRow table) (IsOf a b) rows rows
-    none_alone not = none_put (IsRow table) (IsOf a b) rows never
+    pub none_alone : (TableEntails table a alone b → ⊥) → ArePutLast (IsRow table) (IsRowOf a b) rows rows
+    none_alone not = none_put (IsRow table) (IsRowOf a b) rows never
       where
-        never : (other : Row) → IsRow table other → IsOf a b other → ⊥
+        never : (other : Row) → IsRow table other → IsRowOf a b other → ⊥
         never other is of =
             let entails = subst (λ (n : ℕ). TableEntails table n other.rel b) of.0 (subst (λ (n : ℕ). TableEntails table other.a other.rel n) of.1 is.2) in
             not (subst (λ (r : Rel). TableEntails table a r b) (only other.rel entails) entails)

@@ -6,8 +6,8 @@ use Rattle.net_core.specs.Rels.{all_rels}
 use Rattle.net_core.specs.declared.rels.Rel.{Rel}
 use Rattle.net_core.specs.declared.rels.Rel.TheVariants as rel
 use Rattle.net_core.proofs.RelLaws.{in_table}
-use Rattle.derive_rel.specs.Entailed.{AreAll}
-use Rattle.derive_rel.specs.Pushing.{ArePutLast, IsFrom, IsOf}
+use Rattle.derive_rel.specs.Entailed.{AreAllRows}
+use Rattle.derive_rel.specs.Pushing.{ArePutLast, IsFrom, IsRowOf}
 use Rattle.derive_rel.specs.declared.all_rows.Row.{Row}
 use Rattle.derive_rel.proofs.Joined.{all_rows, one_put, put_last, same_put}
 
@@ -87,26 +87,26 @@ module _ (Kind : Row → Type 0) where
         ]
 
     -- after the last relation
-    pub last_relation : (before rows : List Row) (k : ℕ) → length all_rels ≤ k → ArePutLast Kind (IsOfFirst a b k) before rows → ArePutLast Kind (IsOf a b) before rows
+    pub last_relation : (before rows : List Row) (k : ℕ) → length all_rels ≤ k → ArePutLast Kind (IsOfFirst a b k) before rows → ArePutLast Kind (IsRowOf a b) before rows
     last_relation before rows k all put =
-        same_put Kind (IsOfFirst a b k) (IsOf a b) before rows
+        same_put Kind (IsOfFirst a b k) (IsRowOf a b) before rows
         (λ row is. (λ h. (h.0, h.1), λ h. let at = numbered row.rel in (h.0, h.1, (at.0, omega (arith, at.1, all), at.2)))) put
 
   module _ (a : ℕ) where
     -- one interval more after it
-    pub one_after : (before old new : List Row) (b : ℕ) → ArePutLast Kind (IsOfBelow a b) before old → ArePutLast Kind (IsOf a b) old new → ArePutLast Kind (IsOfBelow a (b + 1)) before new
+    pub one_after : (before old new : List Row) (b : ℕ) → ArePutLast Kind (IsOfBelow a b) before old → ArePutLast Kind (IsRowOf a b) old new → ArePutLast Kind (IsOfBelow a (b + 1)) before new
     one_after before old new b first next =
-        put_last Kind (IsOfBelow a b) (IsOf a b) (IsOfBelow a (b + 1)) before old new first next
+        put_last Kind (IsOfBelow a b) (IsRowOf a b) (IsOfBelow a (b + 1)) before old new first next
         (λ x y is_x is_y earlier later. inr (inl (earlier.0 ∙ sym later.0, omega (arith, earlier.1, later.1))))
         (λ row is. (λ either. there row either, λ meets. here row meets))
       where
-        there : (row : Row) → (IsOfBelow a b row ⊎ IsOf a b row) → IsOfBelow a (b + 1) row
+        there : (row : Row) → (IsOfBelow a b row ⊎ IsRowOf a b row) → IsOfBelow a (b + 1) row
         there row either = elim either [
           | inl less ↦ (less.0, omega (arith, less.1))
           | inr at ↦ (at.0, omega (arith, at.1))
         ]
 
-        here : (row : Row) → IsOfBelow a (b + 1) row → IsOfBelow a b row ⊎ IsOf a b row
+        here : (row : Row) → IsOfBelow a (b + 1) row → IsOfBelow a b row ⊎ IsRowOf a b row
         here row meets = elim (cases_lt row.b b) [
           | inl less ↦ inl (meets.0, less)
           | inr not ↦ inr (meets.0, omega (arith, meets.1, not))
@@ -137,5 +137,5 @@ module _ (Kind : Row → Type 0) where
       ]
 
   -- after the last interval
-  pub last_interval : (rows : List Row) (a : ℕ) → ((row : Row) → Kind row → row.a < a) → ArePutLast Kind (IsFromBelow a) [] rows → AreAll Kind rows
+  pub last_interval : (rows : List Row) (a : ℕ) → ((row : Row) → Kind row → row.a < a) → ArePutLast Kind (IsFromBelow a) [] rows → AreAllRows Kind rows
   last_interval rows a all put = all_rows Kind (IsFromBelow a) rows all put

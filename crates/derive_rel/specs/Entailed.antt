@@ -28,14 +28,14 @@ abbrev pub row_at : List Row → ℕ → Row
 row_at rows k = slice_index_or rows k (record { a = 0; rel = rel.Before; b = 0 })
 
 -- all rows that meet a condition, each once, in order
-pub record AreAll (Meets : Row → Type 0) (rows : List Row) : Type 0 where
+pub record AreAllRows (Meets : Row → Type 0) (rows : List Row) : Type 0 where
   pub right : All Meets rows
   pub whole : (row : Row) → Meets row → Contains rows row
   pub sorted : (k : ℕ) → k + 1 < length rows → ComesBefore (row_at rows k) (row_at rows (k + 1))
 
 -- all rows of a table
 abbrev pub AreRows : Table → List Row → Type 0
-AreRows table rows = AreAll (IsRow table) rows
+AreRows table rows = AreAllRows (IsRow table) rows
 
 -- the law: a table has one list of rows
 abbrev pub OneRowList : Type 0
@@ -43,4 +43,4 @@ OneRowList = (table : Table) (rows others : List Row) → AreRows table rows →
 
 -- the law: where a test tells which rows meet a condition, and only rows of an interval and one after it, below a number, meet it, there is a list of all of them
 abbrev pub EveryConditionHasRows : Type 0
-EveryConditionHasRows = (meets : Row → Bool) (n : ℕ) → ((row : Row) → meets row ≡ true → (row.a < row.b) × (row.b < n)) → (rows : List Row) × AreAll (λ row. meets row ≡ true) rows
+EveryConditionHasRows = (meets : Row → Bool) (n : ℕ) → ((row : Row) → meets row ≡ true → (row.a < row.b) × (row.b < n)) → (rows : List Row) × AreAllRows (λ row. meets row ≡ true) rows

@@ -3,12 +3,12 @@ use Rattle.std.specs.Prelude.{◌≡◌, ◌↔◌, ◌≤◌, ℕ, List, ◌++�
 use Rattle.net_core.specs.declared.rels.Rel.{Rel}
 use Rattle.order_closure.specs.Cells.{order, strength}
 use Rattle.order_closure.specs.Tables.{Table, cell_at}
-use Rattle.derive_rel.specs.Entailed.{AreAll, TableEntails}
+use Rattle.derive_rel.specs.Entailed.{AreAllRows, TableEntails}
 use Rattle.derive_rel.specs.declared.all_rows.Row.{Row}
 
 -- the rows of a kind that meet a condition
 abbrev pub AreRowsWhere : (Row → Type 0) → (Row → Type 0) → List Row → Type 0
-AreRowsWhere Kind Meets rows = AreAll (λ (row : Row). Kind row × Meets row) rows
+AreRowsWhere Kind Meets rows = AreAllRows (λ (row : Row). Kind row × Meets row) rows
 
 -- these rows of a kind are put last
 abbrev pub ArePutLast : (Row → Type 0) → (Row → Type 0) → List Row → List Row → Type 0
@@ -19,8 +19,8 @@ abbrev pub IsFrom : ℕ → Row → Type 0
 IsFrom a row = row.a ≡ a
 
 -- a row of two intervals
-abbrev pub IsOf : ℕ → ℕ → Row → Type 0
-IsOf a b row = (row.a ≡ a) × (row.b ≡ b)
+abbrev pub IsRowOf : ℕ → ℕ → Row → Type 0
+IsRowOf a b row = (row.a ≡ a) × (row.b ≡ b)
 
 -- no relation but that of a row can hold between its intervals
 abbrev pub IsAlone : Table → Row → Type 0

@@ -1,7 +1,7 @@
 //! All relations that hold in all timelines of a table.
 ghost use Rattle.derive_rel.specs.Entailed.{AreRows, IsRow};
 ghost use Rattle.derive_rel.specs.Pairs.{mask_for};
-ghost use Rattle.derive_rel.specs.Pushing.{ArePutLast, IsAlone, IsFrom, IsOf, IsOrder};
+ghost use Rattle.derive_rel.specs.Pushing.{ArePutLast, IsAlone, IsFrom, IsRowOf, IsOrder};
 ghost use Rattle.net_core.specs.Rels.{all_rels};
 ghost use Rattle.order_closure.specs.Tables.{max_table_points};
 ghost use Rattle.std.specs.Prelude.{IfOk, OnOk, map, ◌%◌, ◌*◌, ◌+◌, ◌<◌, ◌≡◌, ◌≤◌};
@@ -63,7 +63,7 @@ fn push_pair(
     requires a { a < b }
     requires b { 2 * b + 1 < closed.now.points }
     requires masks { masks.now ≡ map mask_for all_rels }
-    ensures { OnOk result (ArePutLast (IsRow closed.now) (IsOf a b) rows.old rows.new) }
+    ensures { OnOk result (ArePutLast (IsRow closed.now) (IsRowOf a b) rows.old rows.new) }
 {
     // so few that the numbers of the points fit
     prove!(closed.points() <= MAX_TABLE_POINTS);
@@ -93,7 +93,7 @@ fn push_alone(
     requires to { to < closed.now.points }
     requires alone { IsAlone closed.now row }
     requires order { IsOrder closed.now row from to }
-    ensures { OnOk result (ArePutLast (IsRow closed.now) (IsOf row.a row.b) rows.old rows.new) }
+    ensures { OnOk result (ArePutLast (IsRow closed.now) (IsRowOf row.a row.b) rows.old rows.new) }
 {
     if closed.cell(from, to).gives(true) {
         return rows.push(row);
@@ -112,7 +112,7 @@ fn push_all(
     requires a { a < b }
     requires b { 2 * b + 1 < closed.now.points }
     requires masks { masks.now ≡ map mask_for all_rels }
-    ensures { OnOk result (ArePutLast (IsRow closed.now) (IsOf a b) rows.old rows.new) }
+    ensures { OnOk result (ArePutLast (IsRow closed.now) (IsRowOf a b) rows.old rows.new) }
 {
     let given = orders_between(closed, a, b);
     for mask in masks {

@@ -21,8 +21,8 @@ EndsText lo hi text =
     × (text ≡ numbers lo hi ++ from ++ codes " " ++ to)
 
 -- a text of a kind was appended
-abbrev pub Adds : (List ℕ → Type 0) → List ℕ → List ℕ → Type 0
-Adds IsText old new = (text : List ℕ) × IsText text × (new ≡ old ++ text)
+abbrev pub AddsText : (List ℕ → Type 0) → List ℕ → List ℕ → Type 0
+AddsText IsText old new = (text : List ℕ) × IsText text × (new ≡ old ++ text)
 
 abbrev pub BoundsText : Bounds → List ℕ → Type 0
 BoundsText (Exact lo hi) text = (ends : List ℕ) × EndsText lo hi ends × (text ≡ codes "exact " ++ ends)

@@ -18,22 +18,22 @@ abbrev pub attribute_line : Attribute → List ℕ
 attribute_line a = span_prefix a.start a.end ++ codes "attribute " ++ a.name ++ codes "\n"
 
 -- the kind, for tags the name, and then a line for each attribute
-abbrev pub kind_text : Kind → List ℕ
-kind_text bom = codes "bom\n"
-kind_text (declaration bytes) = codes "declaration\n"
-kind_text (doctype bytes) = codes "doctype\n"
-kind_text (comment bytes) = codes "comment\n"
-kind_text (text bytes) = codes "text\n"
-kind_text (start_tag name attrs) = codes "start " ++ name ++ codes "\n" ++ flat_map attribute_line attrs
-kind_text (end_tag name) = codes "end " ++ name ++ codes "\n"
-kind_text (empty_tag name attrs) = codes "empty " ++ name ++ codes "\n" ++ flat_map attribute_line attrs
+abbrev pub kind_word : Kind → List ℕ
+kind_word bom = codes "bom\n"
+kind_word (declaration bytes) = codes "declaration\n"
+kind_word (doctype bytes) = codes "doctype\n"
+kind_word (comment bytes) = codes "comment\n"
+kind_word (text bytes) = codes "text\n"
+kind_word (start_tag name attrs) = codes "start " ++ name ++ codes "\n" ++ flat_map attribute_line attrs
+kind_word (end_tag name) = codes "end " ++ name ++ codes "\n"
+kind_word (empty_tag name attrs) = codes "empty " ++ name ++ codes "\n" ++ flat_map attribute_line attrs
 
 -- the line of a tag: its span, its kind and its name
 abbrev pub tag_line : ℕ → ℕ → List ℕ → List ℕ → List ℕ
 tag_line start end kind name = span_prefix start end ++ kind ++ name ++ codes "\n"
 
 abbrev pub unit_lines : PlainUnit → List ℕ
-unit_lines u = span_prefix u.start u.end ++ kind_text u.kind
+unit_lines u = span_prefix u.start u.end ++ kind_word u.kind
 
 -- a line for each unit, and after that of a start tag one for each attribute
 abbrev pub unit_table : List PlainUnit → List ℕ

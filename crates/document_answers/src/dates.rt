@@ -1,5 +1,5 @@
 //! The command `dates`: when the times of a document are by the calendar.
-ghost use Rattle.document_answers.specs.Dates.{Adds, BoundsText, DateLine, DateLines, EndsText, numbers};
+ghost use Rattle.document_answers.specs.Dates.{AddsText, BoundsText, DateLine, DateLines, EndsText, numbers};
 ghost use Rattle.std.specs.Fmt.{signed_decimal};
 ghost use Rattle.std.specs.Prelude.{◌≡◌, ◌++◌, codes, IfOk, OnOk};
 ghost use Rattle.timex_dates.specs.Answers.{IsCivil};
@@ -42,7 +42,7 @@ fn date_lines(alloc: Global, document: &Document<'_>) -> Result<Vec<u8>, AllocEr
 
 /// The line of a time: its name and its bounds. An instance has none.
 fn push_date(out: &mut Vec<u8>, interval: Interval<'_>) -> Result<(), AllocError>
-    ensures { OnOk result (Adds (DateLine (plain_interval interval.entry)) out.old.items out.new.items) }
+    ensures { OnOk result (AddsText (DateLine (plain_interval interval.entry)) out.old.items out.new.items) }
 {
     match interval {
         Interval::Instance { .. } => Ok(()),
@@ -62,7 +62,7 @@ fn push_date(out: &mut Vec<u8>, interval: Interval<'_>) -> Result<(), AllocError
 
 fn push_bounds(out: &mut Vec<u8>, bounds: Bounds) -> Result<(), AllocError>
     requires { IsCivil bounds }
-    ensures { OnOk result (Adds (BoundsText bounds) out.old.items out.new.items) }
+    ensures { OnOk result (AddsText (BoundsText bounds) out.old.items out.new.items) }
 {
     match bounds {
         Bounds::Exact { lo, hi } => push_ends(out, b"exact ", lo, hi),
@@ -75,7 +75,7 @@ fn push_bounds(out: &mut Vec<u8>, bounds: Bounds) -> Result<(), AllocError>
 fn push_ends(out: &mut Vec<u8>, word: &[u8], lo: i64, hi: i64) -> Result<(), AllocError>
     requires lo { IsCivilSecond lo }
     requires hi { IsCivilSecond hi }
-    ensures { OnOk result (Adds (EndsText lo hi) (out.old.items ++ word.now) out.new.items) }
+    ensures { OnOk result (AddsText (EndsText lo hi) (out.old.items ++ word.now) out.new.items) }
 {
     let from = civil_text(lo);
     let to = civil_text(hi);

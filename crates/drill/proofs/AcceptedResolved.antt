@@ -15,7 +15,7 @@ use Rattle.named.proofs.Cuts.{inside}
 use Rattle.net_core.specs.Limits.{max_intervals, max_links}
 use Rattle.tml_refs.specs.declared.document.DocLink.{DocLink}
 use Rattle.tml_refs.specs.Documents.{IsLinkOf, PlainInterval, RefersTo, Resolved, counts_of, instance, intervals_of, time}
-use Rattle.tml_refs.specs.Rules.{Breaks, has_id, is_interval, is_tlink, is_unknown}
+use Rattle.tml_refs.specs.Rules.{BreaksReferenceRule, has_id, is_interval, is_tlink, is_unknown}
 use Rattle.tml_types.specs.declared.typed.TagKind.{TagKind}
 use Rattle.tml_types.specs.declared.typed.TagKind.TheVariants as kind
 use Rattle.tml_types.specs.Content as content
@@ -150,7 +150,7 @@ module _ (n : ℕ) (links : List DocLink) (tags : List PlainTyped) (says : map c
     taken_by (Some id) = sym (any_map content_of (is_called id) before)
 
     -- its identifier is that of no tag before it
-    no_duplicate : n ≤ max_intervals → Breaks tags kinds.DuplicateId before tag → ⊥
+    no_duplicate : n ≤ max_intervals → BreaksReferenceRule tags kinds.DuplicateId before tag → ⊥
     no_duplicate few b =
         let new = new_at [] (map content_of before) (map content_of after) tag.content (subst (AreNew []) cut (identifiers_new n links few)) in
         both_ways (is_taken (map content_of before) tag.content) new (sym (taken_by (id_of tag.content)) ∙ b)
@@ -160,7 +160,7 @@ module _ (n : ℕ) (links : List DocLink) (tags : List PlainTyped) (says : map c
     unknown_is r = ap not (sym (any_map content_of (is_asked r) tags) ∙ ap (list_any (is_asked r)) says)
 
     -- its references are to tags that are there
-    no_unknown : AllByRecursion (HasEnds n) links → Breaks tags kinds.UnknownReference before tag → ⊥
+    no_unknown : AllByRecursion (HasEnds n) links → BreaksReferenceRule tags kinds.UnknownReference before tag → ⊥
     no_unknown ends b =
         let known = inside (IsKnown all) (map content_of before) (map content_of after) tag.content (subst (All (IsKnown all)) cut (All-from_recursion (IsKnown all) all (references_known n links ends))) in
         both_ways (list_any (is_unknown tags) (references_of tag.content)) (any_agree (is_unknown tags) (λ (r : Reference). not (list_any (is_asked r) all)) unknown_is (references_of tag.content) ∙ known) b
@@ -172,11 +172,11 @@ module _ (n : ℕ) (links : List DocLink) (tags : List PlainTyped) (says : map c
         absurd (omega (arith, fewer_before p before after tag parts.0, ap (count_by p) whole, few, eqb-true (count_by p before) most parts.1))
 
     -- it breaks no rule
-    breaks_none : n ≤ max_intervals → length links ≤ max_links → AllByRecursion (HasEnds n) links → (rule : FaultKind) → Breaks tags rule before tag → ⊥
+    breaks_none : n ≤ max_intervals → length links ≤ max_links → AllByRecursion (HasEnds n) links → (rule : FaultKind) → BreaksReferenceRule tags rule before tag → ⊥
     breaks_none few short ends rule =
         let intervals : count_by is_interval tags ≤ max_intervals = omega (arith, tags_counted is_interval_content 1 0 (λ x. refl) (λ x. refl)) in
         let tlinks : count_by is_tlink tags ≤ max_links = omega (arith, tags_counted is_link_content 0 1 (λ x. refl) (λ x. refl)) in
-        elim rule as (λ r. Breaks tags r before tag → ⊥) [
+        elim rule as (λ r. BreaksReferenceRule tags r before tag → ⊥) [
           | kinds.DuplicateId ↦ no_duplicate few
           | kinds.UnknownReference ↦ no_unknown ends
           | kinds.TooManyIntervals ↦ few_before is_interval max_intervals intervals

@@ -21,8 +21,8 @@ use Rattle.tml_types.specs.declared.listed.EventClass.TheVariants as class
 use Rattle.tml_types.specs.declared.typed.TagKind.TheVariants as kind
 use Rattle.tml_types.specs.Content.{Content, PlainTyped, event, instance, tlink}
 use Rattle.tml_types.specs.References.{kind_of, reference, tag_name}
-use Rattle.tml_types.specs.Rules.{IsSound, is_absent, is_unfit}
-use Rattle.tml_types.specs.Table.{Row, rows_of}
+use Rattle.tml_types.specs.Rules.{BreaksNoTagRule, is_absent, is_unfit}
+use Rattle.tml_types.specs.Table.{Row, attribute_rows}
 use Rattle.tml_types.specs.Typing.{HasFields, TypedAs}
 use Rattle.tml_types.specs.Values.{filled, is_named}
 use Rattle.tml_types.specs.Walking.{tag_at}
@@ -85,16 +85,16 @@ typed_later t tags typed e k = rw e k
 
 -- no tags say nothing
 say_none : Say [] []
-say_none = record { typed = []; types = record { sound = All-nil IsSound; typed_tags = tt }; contents_are = refl }
+say_none = record { typed = []; types = record { sound = All-nil BreaksNoTagRule; typed_tags = tt }; contents_are = refl }
 
 -- a tag more that breaks no rule, and what it says
-say_more : (name : TagName) (attrs : List Attribute) (place : ℕ) (c : Content) (tags : List PlainTag) (contents : List Content) → any_row (rows_of name) ≡ true → text_of name ≡ tag_name (kind_of c) → HasFields attrs c → IsSound (tag_at place name attrs) → Say tags contents
+say_more : (name : TagName) (attrs : List Attribute) (place : ℕ) (c : Content) (tags : List PlainTag) (contents : List Content) → any_row (attribute_rows name) ≡ true → text_of name ≡ tag_name (kind_of c) → HasFields attrs c → BreaksNoTagRule (tag_at place name attrs) → Say tags contents
     → Say (tag_at place name attrs ∷ tags) (c ∷ contents)
 say_more name attrs place c tags contents r k f s h =
     let x : PlainTyped = record { place = place; content = c } in record {
       typed = x ∷ h.typed;
       types = record {
-        sound = All-cons IsSound (tag_at place name attrs) tags s h.types.sound;
+        sound = All-cons BreaksNoTagRule (tag_at place name attrs) tags s h.types.sound;
         typed_tags = typed_first (tag_at place name attrs) tags x h.typed (ap any_row (rows_known name) ∙ r) (record { place = refl; name = k; fields = f }) h.types.typed_tags;
       };
       contents_are = ap (λ (cs : List Content). c ∷ cs) h.contents_are;
@@ -103,13 +103,13 @@ say_more name attrs place c tags contents r k f s h =
 -- ---- the tags of an interval and of a link
 
 -- the tag of an event breaks no rule
-event_sound : (place i : ℕ) → IsSmall i → IsSound (tag_at place tag.Event (tag_attributes place (codes "EVENT") (event_attributes i)))
+event_sound : (place i : ℕ) → IsSmall i → BreaksNoTagRule (tag_at place tag.Event (tag_attributes place (codes "EVENT") (event_attributes i)))
 event_sound place i small =
     sound_by tag.Event (tag_attributes place (codes "EVENT") (event_attributes i)) place refl refl
     (ap (λ (b : Bool). not b || false) (event_identifier i small)) refl (λ b. names_differ kind.Event kind.Timex refl b.0)
 
 -- nor does that of an instance
-instance_sound : (place i : ℕ) → IsSmall i → IsSound (tag_at place tag.MakeInstance (tag_attributes place (codes "MAKEINSTANCE") (instance_attributes i)))
+instance_sound : (place i : ℕ) → IsSmall i → BreaksNoTagRule (tag_at place tag.MakeInstance (tag_attributes place (codes "MAKEINSTANCE") (instance_attributes i)))
 instance_sound place i small =
     sound_by tag.MakeInstance (tag_attributes place (codes "MAKEINSTANCE") (instance_attributes i)) place refl refl
     (ap (λ (b : Bool × Bool). not b.0 || (not b.1 || false)) (λ k. (instance_identifier i small k, event_identifier i small k))) refl (λ b. names_differ kind.Instance kind.Timex refl b.0)
@@ -123,7 +123,7 @@ relation_named : (r : Rel) → is_named rel_text all_rels (rel_text r) ≡ true
 relation_named r = search rules
 
 -- nor does the tag of a link
-link_sound : (place : ℕ) (link : DocLink) → HasSmallEnds link → IsSound (tag_at place tag.Tlink (tag_attributes place (codes "TLINK") (link_attributes link)))
+link_sound : (place : ℕ) (link : DocLink) → HasSmallEnds link → BreaksNoTagRule (tag_at place tag.Tlink (tag_attributes place (codes "TLINK") (link_attributes link)))
 link_sound place link ends =
     sound_by tag.Tlink (tag_attributes place (codes "TLINK") (link_attributes link)) place refl
     (ap (λ (o : Option (List ℕ)). is_absent o || false) (relation_filled link.rel))
@@ -156,7 +156,7 @@ root_says : (place : ℕ) (tags : List PlainTag) (contents : List Content) → S
 root_says place tags contents h = record {
   typed = h.typed;
   types = record {
-    sound = All-cons IsSound (tag_at place tag.TimeMl []) tags (sound_by tag.TimeMl [] place refl refl refl refl (λ b. false≢true (ap (λ (n : List ℕ). bytes_eq n (codes "TIMEX3")) b.0))) h.types.sound;
+    sound = All-cons BreaksNoTagRule (tag_at place tag.TimeMl []) tags (sound_by tag.TimeMl [] place refl refl refl refl (λ b. false≢true (ap (λ (n : List ℕ). bytes_eq n (codes "TIMEX3")) b.0))) h.types.sound;
     typed_tags = typed_later (tag_at place tag.TimeMl []) tags h.typed (ap any_row (rows_known tag.TimeMl)) h.types.typed_tags;
   };
   contents_are = h.contents_are;

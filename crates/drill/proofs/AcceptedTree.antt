@@ -7,10 +7,10 @@ use Rattle.std.proofs.lemmas.List.Concat.{flat_map-append}
 use Rattle.net_core.specs.Rels.{rel_text}
 use Rattle.tml_refs.specs.declared.document.DocLink.{DocLink}
 use Rattle.tml_span.specs.Units.{Attribute, Kind, text, end_tag}
-use Rattle.tml_span.specs.Written.{double_quote, kind_text, written}
+use Rattle.tml_span.specs.Written.{double_quote, unit_text, written}
 use Rattle.tml_tree.specs.Plain.{PlainNode, text_node, element, nodes_of}
 use Rattle.tml_tree.specs.Written.{kinds_of, all_kinds, node_text, root_text}
-use Rattle.drill.specs.Texts.{event_name, instance_name, interval_lines, link_line}
+use Rattle.drill.specs.Texts.{event_name, instance_name, drill_interval_lines, drill_link_line}
 
 -- an attribute between double quotes, whatever its place
 abbrev pub attribute : List ℕ → List ℕ → Attribute
@@ -78,7 +78,7 @@ kinds_of_nodes (n ∷ nodes) = ap (λ (ks : List Kind). kinds_of n ++ ks) (kinds
 
 -- the text of nodes is that of each, one after another
 nodes_text : (nodes : List PlainNode) → written (all_kinds (nodes_of nodes)) ≡ flat_map node_text nodes
-nodes_text nodes = ap written (kinds_of_nodes nodes) ∙ flat_map_pieces kind_text kinds_of node_text (λ n. refl) nodes
+nodes_text nodes = ap written (kinds_of_nodes nodes) ∙ flat_map_pieces unit_text kinds_of node_text (λ n. refl) nodes
 
 -- the pieces of the lines of an interval, whose number is written three times
 interval_pieces : (d q a g x n p r c s : List ℕ) → d ++ q ++ a ++ g ++ x ++ (n ++ (p ++ (d ++ q ++ (r ++ (c ++ (d ++ q)) ++ []) ++ s ++ [] ++ n))) ≡ d ++ (q ++ a ++ g ++ x ++ n) ++ (p ++ (d ++ (q ++ r) ++ (c ++ d) ++ (q ++ s ++ n)))
@@ -89,29 +89,29 @@ link_pieces : (a b t q c p r s n : List ℕ) → a ++ q ++ (p ++ (c ++ (b ++ q))
 link_pieces a b t q c p r s n = simp (append_assoc, append-nil)
 
 -- the text of the nodes of an interval
-interval_text : (i : ℕ) → flat_map node_text (interval_nodes i) ≡ interval_lines i
+interval_text : (i : ℕ) → flat_map node_text (interval_nodes i) ≡ drill_interval_lines i
 interval_text i =
     ap (λ (bytes : List ℕ). codes "<EVENT eid=\"e" ++ bytes)
     (interval_pieces (decimal i) (codes "\"") (codes " class=\"OCCURRENCE\"") (codes ">") (codes "x</EVENT>") (codes "\n") (codes "<MAKEINSTANCE eiid=\"ei") (codes " eventID=\"") (codes "e") (codes "/>"))
 
 -- the text of the nodes of a link
-link_text : (link : DocLink) → flat_map node_text (link_nodes link) ≡ link_line link
+link_text : (link : DocLink) → flat_map node_text (link_nodes link) ≡ drill_link_line link
 link_text link =
     ap (λ (bytes : List ℕ). codes "<TLINK eventInstanceID=\"ei" ++ bytes)
     (link_pieces (decimal link.a) (decimal link.b) (rel_text link.rel) (codes "\"") (codes "ei") (codes " relatedToEventInstance=\"") (codes " relType=\"") (codes "/>") (codes "\n"))
 
 -- the text of all lines
-lines_text : (numbers : List ℕ) (links : List DocLink) → flat_map node_text (lines_of numbers links) ≡ flat_map interval_lines numbers ++ flat_map link_line links
+lines_text : (numbers : List ℕ) (links : List DocLink) → flat_map node_text (lines_of numbers links) ≡ flat_map drill_interval_lines numbers ++ flat_map drill_link_line links
 lines_text numbers links =
     flat_map-append node_text (flat_map interval_nodes numbers) (flat_map link_nodes links)
-    ∙ (λ i. flat_map_pieces node_text interval_nodes interval_lines interval_text numbers i ++ flat_map_pieces node_text link_nodes link_line link_text links i)
+    ∙ (λ i. flat_map_pieces node_text interval_nodes drill_interval_lines interval_text numbers i ++ flat_map_pieces node_text link_nodes drill_link_line link_text links i)
 
 -- the text of a root that has these children
 closed_text : (inside : List Kind) → written ((inside ++ end_tag (codes "TimeML") ∷ []) ++ text (codes "\n") ∷ []) ≡ written inside ++ codes "</TimeML>\n"
-closed_text inside = ap written (append_assoc inside (end_tag (codes "TimeML") ∷ []) (text (codes "\n") ∷ [])) ∙ flat_map-append kind_text inside (end_tag (codes "TimeML") ∷ text (codes "\n") ∷ [])
+closed_text inside = ap written (append_assoc inside (end_tag (codes "TimeML") ∷ []) (text (codes "\n") ∷ [])) ∙ flat_map-append unit_text inside (end_tag (codes "TimeML") ∷ text (codes "\n") ∷ [])
 
 -- the text of the tree is that of the drill
-pub text_is : (numbers : List ℕ) (links : List DocLink) → root_text (root_of numbers links) ≡ codes "<TimeML>\n" ++ flat_map interval_lines numbers ++ flat_map link_line links ++ codes "</TimeML>\n"
+pub text_is : (numbers : List ℕ) (links : List DocLink) → root_text (root_of numbers links) ≡ codes "<TimeML>\n" ++ flat_map drill_interval_lines numbers ++ flat_map drill_link_line links ++ codes "</TimeML>\n"
 text_is numbers links =
     ap (λ (bytes : List ℕ). codes "<TimeML>" ++ bytes) (closed_text (all_kinds (nodes_of (inner_nodes numbers links))))
     ∙ ap (λ (bytes : List ℕ). codes "<TimeML>" ++ bytes ++ codes "</TimeML>\n") (nodes_text (inner_nodes numbers links))

@@ -11,7 +11,7 @@ use Rattle.tml_span.proofs.Utf8.{ascii_utf8, is_ascii}
 use Rattle.tml_refs.specs.declared.document.DocLink.{DocLink}
 use Rattle.tml_span.specs.Bytes.{is_name, is_text_byte}
 use Rattle.tml_span.specs.Units.{Attribute, Kind, text, start_tag, end_tag, empty_tag}
-use Rattle.tml_span.specs.Written.{attribute_text, kind_text, written, IsAttribute, IsContent, BeginsWithText, NoTextsMeet, AreWritable}
+use Rattle.tml_span.specs.Written.{attribute_text, unit_text, written, IsAttribute, IsContent, BeginsWithText, NoTextsMeet, AreWritable}
 use Rattle.tml_tree.specs.Plain.{PlainNode, nodes_of}
 use Rattle.tml_tree.specs.Written.{kinds_of, all_kinds, AllMayStand, MayBeRoot, root_kinds}
 use Rattle.drill.proofs.AcceptedBytes.{is_plain, plain_ascii, plain_references, plain_value, event_plain, instance_plain, relation_plain}
@@ -26,7 +26,7 @@ IsPlain a = (is_name a.name ≡ true) × (list_all is_plain a.name ≡ true) × 
 
 -- a unit that can be written, in ASCII
 abbrev pub IsSafe : Kind → Type 0
-IsSafe kind = IsContent kind × (list_all is_ascii (kind_text kind) ≡ true)
+IsSafe kind = IsContent kind × (list_all is_ascii (unit_text kind) ≡ true)
 
 -- plain attributes can be written
 attributes_writable : (attrs : List Attribute) → AllByRecursion IsPlain attrs → All IsAttribute attrs
@@ -145,7 +145,7 @@ safe_content (k ∷ kinds) h = All-cons IsContent k kinds h.0.0 (safe_content ki
 -- and their text is ASCII
 safe_ascii : (kinds : List Kind) → AllByRecursion IsSafe kinds → list_all is_ascii (written kinds) ≡ true
 safe_ascii [] h = refl
-safe_ascii (k ∷ kinds) h = all_append is_ascii (kind_text k) (written kinds) h.0.1 (safe_ascii kinds h.1)
+safe_ascii (k ∷ kinds) h = all_append is_ascii (unit_text k) (written kinds) h.0.1 (safe_ascii kinds h.1)
 
 -- units that follow each other can be written
 follow_writable : (kinds : List Kind) → Follow kinds → AreWritable kinds

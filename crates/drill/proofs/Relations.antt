@@ -1,10 +1,9 @@
 -- A relation holds exactly where the orders are true that it is.
-use Rattle.std.proofs.Common.{◌≡◌, ℕ, Bool, true, false, nat_lt, nat_le, List, [], ◌∷◌, map, refl}
+use Rattle.std.proofs.Common.{ℕ, Bool, true, false, nat_lt, nat_le, List, [], ◌∷◌, map, refl}
 use Rattle.std.specs.Prelude.{if◌then◌else◌}
 use Rattle.std.specs.Bool.{Decides}
 use Rattle.std.specs.List.{AllByRecursion, list_all}
 use Rattle.std.proofs.lemmas.Bool.{and_from, and_parts, leb-true, le-leb, lt-ltb, ltb-true}
-use Rattle.std.proofs.lemmas.Bool.Decides.{same_from_decides}
 use Rattle.net_core.specs.Atoms.{IsInOrder, IsTrueOf, atom_between, orders_of}
 use Rattle.net_core.specs.Relations.{Holds}
 use Rattle.net_core.specs.declared.atom.PairOrder.{PairOrder}
@@ -35,7 +34,3 @@ holds_decided r a b =
     let by_orders = relation_by_orders r a b in
     let tests = all_decided a b (orders_of r) in
     (λ e. by_orders.1 (tests.0 e), λ h. tests.1 (by_orders.0 h))
-
--- so another test that says it too is the same
-pub same_test : (r : Rel) (a b : Ends) (test : Bool) → Decides test (Holds a r b) → test ≡ does_hold a r b
-same_test r a b test says = same_from_decides test (does_hold a r b) says (holds_decided r a b)

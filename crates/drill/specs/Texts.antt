@@ -20,17 +20,17 @@ event_line i = codes "<EVENT eid=\"" ++ event_name i ++ codes "\" class=\"OCCURR
 abbrev pub instance_line : ℕ → List ℕ
 instance_line i = codes "<MAKEINSTANCE eiid=\"" ++ instance_name i ++ codes "\" eventID=\"" ++ event_name i ++ codes "\"/>\n"
 
-abbrev pub interval_lines : ℕ → List ℕ
-interval_lines i = event_line i ++ instance_line i
+abbrev pub drill_interval_lines : ℕ → List ℕ
+drill_interval_lines i = event_line i ++ instance_line i
 
-abbrev pub link_line : DocLink → List ℕ
-link_line link =
+abbrev pub drill_link_line : DocLink → List ℕ
+drill_link_line link =
     codes "<TLINK eventInstanceID=\"" ++ instance_name link.a ++ codes "\" relatedToEventInstance=\"" ++ instance_name link.b
     ++ codes "\" relType=\"" ++ rel_text link.rel ++ codes "\"/>\n"
 
 -- the document of drill n: its events with their instances, and its links
 abbrev pub drill_document : ℕ → List ℕ
-drill_document n = codes "<TimeML>\n" ++ flat_map interval_lines (range_with_len 0 n) ++ flat_map link_line (links_of n) ++ codes "</TimeML>\n"
+drill_document n = codes "<TimeML>\n" ++ flat_map drill_interval_lines (range_with_len 0 n) ++ flat_map drill_link_line (links_of n) ++ codes "</TimeML>\n"
 
 -- what it says
 abbrev pub drill_contents : ℕ → PlainDocument

@@ -51,7 +51,7 @@ fn document(alloc: Global, n: u32) -> Result<Vec<u8>, AllocError>
 
 /// Appends an event and its instance.
 fn push_interval(out: &mut Vec<u8>, i: u32) -> Result<(), AllocError>
-    ensures { OnOk result (out.new.items ≡ out.old.items ++ texts.interval_lines i) }
+    ensures { OnOk result (out.new.items ≡ out.old.items ++ texts.drill_interval_lines i) }
 {
     push_numbered(out, b"<EVENT eid=\"e", i)?;
     out.extend_from_slice(b"\" class=\"OCCURRENCE\">x</EVENT>\n")?;
@@ -67,7 +67,7 @@ fn push_links(out: &mut Vec<u8>, hidden: &[Ends], mut draws: Draws) -> Result<()
     requires hidden { hidden.now ≡ hidden_intervals (length hidden.now) }
     requires draws { draws.last ≡ drawn (length hidden.now) (2 * length hidden.now) }
     requires within { draws.last < 65537 }
-    ensures { OnOk result (out.new.items ≡ out.old.items ++ flat_map texts.link_line (links_of (length hidden.now))) }
+    ensures { OnOk result (out.new.items ≡ out.old.items ++ flat_map texts.drill_link_line (links_of (length hidden.now))) }
 {
     for i in 1..hidden.len() as u32 {
         push_links_from(out, hidden, i, &mut draws)?;
@@ -88,7 +88,7 @@ fn push_links_from(
     requires hidden { hidden.now ≡ hidden_intervals (length hidden.now) }
     requires draws { draws.old.last ≡ drawn (length hidden.now) (2 * length hidden.now + 3 * (i - 1)) }
     requires within { draws.old.last < 65537 }
-    ensures text { OnOk result (out.new.items ≡ out.old.items ++ flat_map texts.link_line (links_from (length hidden.now) i)) }
+    ensures text { OnOk result (out.new.items ≡ out.old.items ++ flat_map texts.drill_link_line (links_from (length hidden.now) i)) }
     ensures draws { OnOk result (draws.new.last ≡ drawn (length hidden.now) (2 * length hidden.now + 3 * i)) }
     ensures still_within { draws.new.last < 65537 }
 {
@@ -104,7 +104,7 @@ fn push_link_between(out: &mut Vec<u8>, hidden: &[Ends], i: u32, j: u32) -> Resu
     requires hidden { hidden.now ≡ hidden_intervals (length hidden.now) }
     requires i { i < length hidden.now }
     requires j { j < length hidden.now }
-    ensures { OnOk result (out.new.items ≡ out.old.items ++ flat_map texts.link_line (option_to_list (spec.link_between (length hidden.now) i j))) }
+    ensures { OnOk result (out.new.items ≡ out.old.items ++ flat_map texts.drill_link_line (option_to_list (spec.link_between (length hidden.now) i j))) }
 {
     match link_between(hidden, i, j) {
         Some(link) => push_link(out, link),
@@ -114,7 +114,7 @@ fn push_link_between(out: &mut Vec<u8>, hidden: &[Ends], i: u32, j: u32) -> Resu
 
 /// Appends a TLINK.
 fn push_link(out: &mut Vec<u8>, link: DocLink) -> Result<(), AllocError>
-    ensures { OnOk result (out.new.items ≡ out.old.items ++ texts.link_line link) }
+    ensures { OnOk result (out.new.items ≡ out.old.items ++ texts.drill_link_line link) }
 {
     push_numbered(out, b"<TLINK eventInstanceID=\"ei", link.a)?;
     push_numbered(out, b"\" relatedToEventInstance=\"ei", link.b)?;

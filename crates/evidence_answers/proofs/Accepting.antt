@@ -7,7 +7,7 @@ use Rattle.tml_accept.specs.Acceptance.{Says}
 use Rattle.tml_io.specs.Files.{Files, held}
 use Rattle.tml_refs.specs.Documents.{PlainDocument}
 use Rattle.runs.specs.OneReply.{HasOneNext}
-use Rattle.runs.specs.Reading.{total}
+use Rattle.runs.specs.Reading.{total_length}
 use Rattle.runs.specs.Replies.{Replies}
 use Rattle.runs.specs.Rows.{File}
 use Rattle.runs.specs.declared.status.Status.TheVariants.{Done}
@@ -20,7 +20,7 @@ pub accepted : (files : Files) (name : List ℕ) (file : File) (Of : Judgements)
     → held files file.name ≡ Some text → length text ≤ file.limit → length text ≤ max_evidence → Of contents text Done line → AcceptsText files (judged_rows name file Of) text
 accepted files name file Of doc text line contents one holds short says holds_text few small answer =
     let rows = judged_rows name file Of in
-    let reply : Replies (Some files) rows Done line (total (doc ∷ text ∷ []) + 0) = record {
+    let reply : Replies (Some files) rows Done line (total_length (doc ∷ text ∷ []) + 0) = record {
       contents = doc ∷ text ∷ [];
       reading = (doc_file name, refl, (holds, short), (file, ((contents, says), refl), (holds_text, few), tt));
       part = 0;
@@ -29,6 +29,6 @@ accepted files name file Of doc text line contents one holds short says holds_te
     } in
     record {
       short = small;
-      done = (line, total (doc ∷ text ∷ []) + 0, reply);
-      reply = λ status found taken whole h. (one_reply rows one files status Done found line taken (total (doc ∷ text ∷ []) + 0) whole refl h reply).one_status;
+      done = (line, total_length (doc ∷ text ∷ []) + 0, reply);
+      reply = λ status found taken whole h. (one_reply rows one files status Done found line taken (total_length (doc ∷ text ∷ []) + 0) whole refl h reply).one_status;
     }

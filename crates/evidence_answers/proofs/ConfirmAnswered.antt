@@ -1,5 +1,5 @@
 -- A text of seconds has one answer, by its document: one status, and one line.
-use Rattle.std.proofs.Common.{◌≡◌, ◌⊎◌, ℕ, List, codes, false, refl, sym, ap, subst, ◌∙◌, inl, inr}
+use Rattle.std.proofs.Common.{◌≡◌, ◌⊎◌, ℕ, List, codes, refl, sym, ap, subst, ◌∙◌, inl, inr}
 use Rattle.std.specs.Prelude.{⊤}
 use Rattle.answers.proofs.Answering.{IsAnsweredByDocument}
 use Rattle.answers.specs.Lines.{numbered}
@@ -11,55 +11,45 @@ use Rattle.seconds_build.proofs.Nets.{one_timed}
 use Rattle.seconds_check.specs.Refusals.{IsPaired, AreSecondsRefused}
 use Rattle.seconds_check.proofs.Judged.{confirmed_or_refused}
 use Rattle.seconds_check.proofs.Verdicts.{one_verdict}
-use Rattle.seconds_core.specs.Evidence.{PlainEvidence, Placed, Cycle}
+use Rattle.seconds_core.specs.Evidence.{PlainSeconds, Placed, Cycle}
 use Rattle.seconds_core.specs.Timed.{PlainTimed}
-use Rattle.seconds_format.specs.Texts.{IsText}
+use Rattle.seconds_format.specs.Texts.{IsSecondsText}
 use Rattle.seconds_format.proofs.Reading.{every_text, one_bad, one_value}
 use Rattle.runs.specs.Rows.{NeverFree}
-use Rattle.runs.specs.OneReply.{is_broken_off}
 use Rattle.runs.specs.declared.status.Status.{Status}
 use Rattle.runs.specs.declared.status.Status.TheVariants.{Done, EvidenceFault}
-use Rattle.runs.proofs.Answering.{AreAnswered, HasAnswer, IsAnswered, by_the_one}
-use Rattle.evidence_answers.specs.ConfirmTexts.{claim_line, refusal_line}
-use Rattle.evidence_answers.specs.Confirmed.{OfConfirm, OfText, ReportsBadLine, ReportsClaim, ReportsRefusal, confirm_rows, seconds_file}
+use Rattle.runs.proofs.Answering.{AreAnswered, HasAnswer, IsAnswered, by_the_one, one_of_two}
+use Rattle.evidence_answers.specs.ConfirmTexts.{seconds_claim_line, seconds_refusal_line}
+use Rattle.evidence_answers.specs.Confirmed.{OfConfirm, OfText, ReportsBadLine, ReportsClaim, ReportsSecondsRefusal, confirm_rows, seconds_file}
 
 module _ (timed : PlainTimed) (bytes : List ℕ) where
   -- what is confirmed is not refused
-  claim_or_refusal : (text line : List ℕ) → ReportsClaim timed bytes text → ReportsRefusal timed bytes line → ⊥
+  claim_or_refusal : (text line : List ℕ) → ReportsClaim timed bytes text → ReportsSecondsRefusal timed bytes line → ⊥
   claim_or_refusal text line h k =
-      (one_verdict timed h.0).not_both k.1 h.2 (subst (λ (e : PlainEvidence). AreSecondsRefused timed e k.1) (one_value k.0 h.0 bytes k.2 h.1) k.3)
+      (one_verdict timed h.0).not_both k.1 h.2 (subst (λ (e : PlainSeconds). AreSecondsRefused timed e k.1) (one_value k.0 h.0 bytes k.2 h.1) k.3)
 
-  same_status : (status other : Status) (text line : List ℕ) → OfText timed bytes status text → OfText timed bytes other line → status ≡ other
-  same_status Done Done text line h k = refl
-  same_status Done EvidenceFault text line h (inl k) = absurd (k.0 h.0 h.1)
-  same_status Done EvidenceFault text line h (inr k) = absurd (claim_or_refusal text line h k)
-  same_status EvidenceFault Done text line (inl h) k = absurd (h.0 k.0 k.1)
-  same_status EvidenceFault Done text line (inr h) k = absurd (claim_or_refusal line text k h)
-  same_status EvidenceFault EvidenceFault text line h k = refl
-  same_status Done other text line h k = absurd k
-  same_status EvidenceFault other text line h k = absurd k
-  same_status status other text line h k = absurd h
+  either : (status : Status) (text : List ℕ) → OfText timed bytes status text → (status ≡ Done) ⊎ (status ≡ EvidenceFault)
+  either Done text h = inl refl
+  either EvidenceFault text h = inr refl
+  either status text h = absurd h
 
-  same_fault : (text line : List ℕ) → ReportsBadLine bytes text ⊎ ReportsRefusal timed bytes text → ReportsBadLine bytes line ⊎ ReportsRefusal timed bytes line → text ≡ line
+  claim_or_fault : (text line : List ℕ) → ReportsClaim timed bytes text → ReportsBadLine bytes line ⊎ ReportsSecondsRefusal timed bytes line → ⊥
+  claim_or_fault text line h (inl k) = k.0 h.0 h.1
+  claim_or_fault text line h (inr k) = claim_or_refusal text line h k
+
+  same_fault : (text line : List ℕ) → ReportsBadLine bytes text ⊎ ReportsSecondsRefusal timed bytes text → ReportsBadLine bytes line ⊎ ReportsSecondsRefusal timed bytes line → text ≡ line
   same_fault text line (inl h) (inl k) = h.3 ∙ ap (numbered (codes "evidence line ")) (one_bad bytes h.1 k.1 h.2 k.2) ∙ sym k.3
   same_fault text line (inl h) (inr k) = absurd (h.0 k.0 k.2)
   same_fault text line (inr h) (inl k) = absurd (k.0 h.0 h.2)
   same_fault text line (inr h) (inr k) =
       let same = one_value h.0 k.0 bytes h.2 k.2 in
-      h.4 ∙ ap refusal_line ((one_verdict timed k.0).one_refusal h.1 k.1 (subst (λ (e : PlainEvidence). AreSecondsRefused timed e h.1) same h.3) k.3) ∙ sym k.4
+      h.4 ∙ ap seconds_refusal_line ((one_verdict timed k.0).one_refusal h.1 k.1 (subst (λ (e : PlainSeconds). AreSecondsRefused timed e h.1) same h.3) k.3) ∙ sym k.4
 
-  same_text : (status : Status) (text line : List ℕ) → OfText timed bytes status text → OfText timed bytes status line → text ≡ line
-  same_text Done text line h k = h.3 ∙ ap claim_line (one_value h.0 k.0 bytes h.1 k.1) ∙ sym k.3
-  same_text EvidenceFault text line h k = same_fault text line h k
-  same_text status text line h k = absurd h
-
-  whole : (status : Status) (text : List ℕ) → OfText timed bytes status text → is_broken_off status ≡ false
-  whole Done text h = refl
-  whole EvidenceFault text h = refl
-  whole status text h = absurd h
+  same_claim : (text line : List ℕ) → ReportsClaim timed bytes text → ReportsClaim timed bytes line → text ≡ line
+  same_claim text line h k = h.3 ∙ ap seconds_claim_line (one_value h.0 k.0 bytes h.1 k.1) ∙ sym k.3
 
 -- the seconds of a text are a start and an end of each interval
-paired : (e : PlainEvidence) (bytes : List ℕ) → IsText e bytes → IsPaired e
+paired : (e : PlainSeconds) (bytes : List ℕ) → IsSecondsText e bytes → IsPaired e
 paired (Placed seconds) bytes is = is.0.0.0
 paired (Cycle lines) bytes is = tt
 
@@ -67,18 +57,14 @@ some : (timed : PlainTimed) (bytes : List ℕ) → HasAnswer (OfText timed bytes
 some timed bytes = elim (every_text bytes) [
   | inr bad ↦ (EvidenceFault, numbered (codes "evidence line ") bad.1, inl (bad.0, bad.1, bad.2, refl))
   | inl e ↦ elim (confirmed_or_refused timed e.0 (paired e.0 bytes e.1)) [
-    | inl confirmed ↦ (Done, claim_line e.0, (e.0, e.1, confirmed, refl))
-    | inr refused ↦ (EvidenceFault, refusal_line refused.0, inr (e.0, refused.0, e.1, refused.1, refl))
+    | inl confirmed ↦ (Done, seconds_claim_line e.0, (e.0, e.1, confirmed, refl))
+    | inr refused ↦ (EvidenceFault, seconds_refusal_line refused.0, inr (e.0, refused.0, e.1, refused.1, refl))
   ]
 ]
 
 of_timed : (timed : PlainTimed) (bytes : List ℕ) → IsAnswered ⊤ (OfText timed bytes) (λ status. ⊥)
-of_timed timed bytes = record {
-  some = λ given. some timed bytes;
-  one_status = same_status timed bytes;
-  whole = whole timed bytes;
-  one_text = λ status text line determined. same_text timed bytes status text line;
-}
+of_timed timed bytes = one_of_two (OfText timed bytes) (λ status. ⊥) Done EvidenceFault refl refl (either timed bytes) (claim_or_fault timed bytes)
+    (λ text line determined. same_claim timed bytes text line) (λ text line determined. same_fault timed bytes text line) (λ given. some timed bytes)
 
 pub confirm_judged : IsAnsweredByDocument OfConfirm (λ contents bytes status. ⊥)
 confirm_judged doc contents says bytes =

@@ -1,5 +1,5 @@
 -- Two files of evidence have one text of all their claims, or the first one that is malformed has one bad line.
-use Rattle.std.proofs.Common.{◌≡◌, ◌≤◌, ℕ, List, ◌++◌, codes, false, length, refl, sym, ap, ◌∙◌, inl, inr, arith}
+use Rattle.std.proofs.Common.{◌≡◌, ◌⊎◌, ◌≤◌, ℕ, List, ◌++◌, codes, length, refl, sym, ap, ◌∙◌, inl, inr, arith}
 use Rattle.std.specs.List.{concat}
 use Rattle.evidence_format.specs.Bundles.{IsTextOfEither, bundle_lines}
 use Rattle.evidence_format.specs.Evidence.{PlainEvidence}
@@ -7,14 +7,14 @@ use Rattle.evidence_format.proofs.Claims.{both_have_text}
 use Rattle.evidence_format.proofs.Reading.{bundle_or_bad_line}
 use Rattle.net_core.specs.Limits.{max_evidence}
 use Rattle.runs.specs.Rows.{NeverFree}
-use Rattle.runs.specs.OneReply.{is_broken_off}
-use Rattle.runs.proofs.Answering.{AreAnswered, HasAnswer, IsAnsweredAfter, IsDecisive}
+use Rattle.runs.specs.OneReply.{is_aborted}
+use Rattle.runs.proofs.Answering.{AreAnswered, HasAnswer, IsAnsweredAfter, IsDecisive, one_of_two}
 use Rattle.runs.specs.declared.status.Status.{Status}
 use Rattle.runs.specs.declared.status.Status.TheVariants.{Done, EvidenceFault}
 use Rattle.runs.proofs.TwoFiles.{both_answered_once}
 use Rattle.answers.specs.Lines.{numbered}
 use Rattle.evidence_answers.specs.Files.{evidence_file, second_file}
-use Rattle.evidence_answers.specs.Join.{OfSecond, evidence, join_rows}
+use Rattle.evidence_answers.specs.Join.{IsJoinText, OfSecond, evidence, join_rows}
 use Rattle.evidence_answers.proofs.Files.{one_bundle, one_report}
 
 -- a first file is evidence, or has one bad line
@@ -29,7 +29,7 @@ evidence_judged = record {
   refusal = λ bytes. record {
     some = λ refused. refused;
     one_status = λ status other text line h k. h.0 ∙ sym k.0;
-    whole = λ status text h. ap is_broken_off h.0;
+    whole = λ status text h. ap is_aborted h.0;
     one_text = λ status text line determined h k. one_report (codes "evidence line ") bytes text line h.1 k.1;
   };
 }
@@ -40,32 +40,18 @@ some one short es says other few = elim (bundle_or_bad_line other) [
   | inr bad ↦ (EvidenceFault, numbered (codes "second line ") bad.1, (bad.0, bad.1, bad.2, refl))
 ]
 
-one_status : (es : List PlainEvidence) (bytes : List ℕ) (status other : Status) (text line : List ℕ) → OfSecond es bytes status text → OfSecond es bytes other line → status ≡ other
-one_status es bytes Done Done text line h k = refl
-one_status es bytes Done EvidenceFault text line h k = absurd (k.0 h.0 h.1)
-one_status es bytes EvidenceFault Done text line h k = absurd (h.0 k.0 k.1)
-one_status es bytes EvidenceFault EvidenceFault text line h k = refl
-one_status es bytes Done other text line h k = absurd k
-one_status es bytes EvidenceFault other text line h k = absurd k
-one_status es bytes status other text line h k = absurd h
+either : (es : List PlainEvidence) (bytes : List ℕ) (status : Status) (text : List ℕ) → OfSecond es bytes status text → (status ≡ Done) ⊎ (status ≡ EvidenceFault)
+either es bytes Done text h = inl refl
+either es bytes EvidenceFault text h = inr refl
+either es bytes status text h = absurd h
 
-whole : (es : List PlainEvidence) (bytes : List ℕ) (status : Status) (text : List ℕ) → OfSecond es bytes status text → is_broken_off status ≡ false
-whole es bytes Done text h = refl
-whole es bytes EvidenceFault text h = refl
-whole es bytes status text h = absurd h
-
-one_text : (es : List PlainEvidence) (bytes : List ℕ) (status : Status) (text line : List ℕ) → OfSecond es bytes status text → OfSecond es bytes status line → text ≡ line
-one_text es bytes Done text line h k = h.2.1 ∙ ap (λ (more : List PlainEvidence). concat (bundle_lines (es ++ more))) (one_bundle h.0 k.0 bytes h.1 k.1) ∙ sym k.2.1
-one_text es bytes EvidenceFault text line h k = one_report (codes "second line ") bytes text line h k
-one_text es bytes status text line h k = absurd h
+one_join : (es : List PlainEvidence) (bytes text line : List ℕ) → IsJoinText es bytes text → IsJoinText es bytes line → text ≡ line
+one_join es bytes text line h k = h.2.1 ∙ ap (λ (more : List PlainEvidence). concat (bundle_lines (es ++ more))) (one_bundle h.0 k.0 bytes h.1 k.1) ∙ sym k.2.1
 
 second_answered : IsAnsweredAfter evidence max_evidence max_evidence OfSecond (λ es other status. ⊥)
-second_answered one es says other = record {
-  some = λ short. some one short.0 es says other short.1;
-  one_status = one_status es other;
-  whole = whole es other;
-  one_text = λ status text line determined. one_text es other status text line;
-}
+second_answered one es says other = one_of_two (OfSecond es other) (λ status. ⊥) Done EvidenceFault refl refl (either es other) (λ text line h k. k.0 h.0 h.1)
+    (λ text line determined. one_join es other text line) (λ text line determined. one_report (codes "second line ") other text line)
+    (λ short. some one short.0 es says other short.1)
 
 pub join_answered : (name other : List ℕ) → AreAnswered (join_rows name other) NeverFree
 join_answered name other = both_answered_once evidence (evidence_file name) (second_file other) OfSecond evidence_judged second_answered

@@ -5,22 +5,22 @@ use Rattle.answers.proofs.Contents.{its_document}
 use Rattle.seconds_build.specs.Built.{IsTimedOf}
 use Rattle.seconds_build.proofs.EveryTime.{every_timed}
 use Rattle.seconds_build.proofs.Nets.{one_timed}
-use Rattle.seconds_core.specs.Evidence.{PlainEvidence, Placed, Cycle}
+use Rattle.seconds_core.specs.Evidence.{PlainSeconds, Placed, Cycle}
 use Rattle.seconds_core.specs.Placed.{HasPlacing}
 use Rattle.seconds_core.specs.Timed.{IsTimed, PlainTimed}
 use Rattle.seconds_core.proofs.Sums.{negative_is_unplaced}
 use Rattle.seconds_check.specs.Confirmed.{IsConfirmed}
-use Rattle.seconds_format.specs.Texts.{IsText}
+use Rattle.seconds_format.specs.Texts.{IsSecondsText}
 use Rattle.tml_accept.specs.Acceptance.{Says}
 use Rattle.tml_io.specs.Files.{Files, held}
 use Rattle.tml_refs.specs.Documents.{PlainDocument}
 use Rattle.runs.specs.Replies.{Replies}
 use Rattle.runs.specs.declared.status.Status.TheVariants.{Done}
-use Rattle.runs.specs.Reading.{Reading}
+use Rattle.runs.specs.Reading.{AreFirstContents}
 use Rattle.runs.specs.Rows.{File}
 use Rattle.runs.specs.TwoFiles.{after_first}
 use Rattle.runs.proofs.OneReply.{EndsWhole, ends_whole}
-use Rattle.evidence_answers.specs.ConfirmTexts.{claim_line}
+use Rattle.evidence_answers.specs.ConfirmTexts.{seconds_claim_line}
 use Rattle.evidence_answers.specs.Confirmed.{OfConfirm, ReportsClaim, confirm_rows}
 use Rattle.evidence_answers.specs.Truth.{CycleIsTrue, HoldsPlacing, HoldsTimed, PlacingIsTrue}
 
@@ -40,7 +40,7 @@ is_timed doc contents timed says built =
     subst IsTimed (one_timed contents other timed too built) is
 
 module _ (files : Files) (name other text : List ℕ) where
-  both_read : (doc bytes : List ℕ) → Reading (Some files) (confirm_rows name other) (doc ∷ bytes ∷ []) → after_first documents OfConfirm doc bytes Done text → Claims files name other text
+  both_read : (doc bytes : List ℕ) → AreFirstContents (Some files) (confirm_rows name other) (doc ∷ bytes ∷ []) → after_first documents OfConfirm doc bytes Done text → Claims files name other text
   both_read doc bytes (file, is_doc, gives, (next, row, gives_next, end)) (contents, says, (timed, built, claim)) = record {
     timed = timed;
     of = record { doc = doc; contents = contents; holds = subst (λ (f : File). held files f.name ≡ Some doc) is_doc gives.0; says = says; built = built };
@@ -50,7 +50,7 @@ module _ (files : Files) (name other text : List ℕ) where
     claim = claim;
   }
 
-  after : (contents : List (List ℕ)) (part : ℕ) → Reading (Some files) (confirm_rows name other) contents → EndsWhole (Some files) (confirm_rows name other) contents Done text part → Claims files name other text
+  after : (contents : List (List ℕ)) (part : ℕ) → AreFirstContents (Some files) (confirm_rows name other) contents → EndsWhole (Some files) (confirm_rows name other) contents Done text part → Claims files name other text
   after [] part reading (inl row) = absurd row.0
   after (doc ∷ []) part reading (inl row) = absurd (cc row.0.0)
   after (doc ∷ bytes ∷ []) part reading (inl row) = both_read doc bytes reading row.0
@@ -65,11 +65,11 @@ differ : codes "confirmed placing\n" ≡ codes "confirmed cycle\n" → ⊥
 differ e = let letter = ap (λ (line : List ℕ). get_or line 10 0) e in omega (arith, letter)
 
 placing_of : (files : Files) (other : List ℕ) (timed : PlainTimed) (bytes : List ℕ) → held files other ≡ Some bytes
-    → (e : PlainEvidence) → IsText e bytes → IsConfirmed timed e → codes "confirmed placing\n" ≡ claim_line e → HoldsPlacing files other timed
+    → (e : PlainSeconds) → IsSecondsText e bytes → IsConfirmed timed e → codes "confirmed placing\n" ≡ seconds_claim_line e → HoldsPlacing files other timed
 placing_of files other timed bytes holds (Placed seconds) text confirmed line = (bytes, seconds, holds, text, confirmed)
 placing_of files other timed bytes holds (Cycle lines) text confirmed line = absurd (differ line)
 
-no_placing : (timed : PlainTimed) → IsTimed timed → (e : PlainEvidence) → IsConfirmed timed e → codes "confirmed cycle\n" ≡ claim_line e → HasPlacing timed → ⊥
+no_placing : (timed : PlainTimed) → IsTimed timed → (e : PlainSeconds) → IsConfirmed timed e → codes "confirmed cycle\n" ≡ seconds_claim_line e → HasPlacing timed → ⊥
 no_placing timed is (Cycle lines) confirmed line = negative_is_unplaced timed lines is confirmed
 no_placing timed is (Placed seconds) confirmed line = absurd (differ (sym line))
 

@@ -1,5 +1,5 @@
 -- Evidence of a document has one answer: one status, and one text.
-use Rattle.std.proofs.Common.{◌≡◌, ◌⊎◌, ℕ, List, codes, false, refl, sym, ap, subst, ◌∙◌, inl, inr}
+use Rattle.std.proofs.Common.{◌≡◌, ◌⊎◌, ℕ, List, codes, refl, sym, ap, subst, ◌∙◌, inl, inr}
 use Rattle.std.specs.Prelude.{⊤}
 use Rattle.answers.proofs.Answering.{IsAnsweredByDocument}
 use Rattle.answers.specs.Lines.{numbered}
@@ -16,10 +16,9 @@ use Rattle.net_build.proofs.OneNet.{one_net}
 use Rattle.net_core.specs.Nets.{PlainNet}
 use Rattle.tml_refs.specs.Documents.{PlainDocument}
 use Rattle.runs.specs.Rows.{NeverFree}
-use Rattle.runs.specs.OneReply.{is_broken_off}
 use Rattle.runs.specs.declared.status.Status.{Status}
 use Rattle.runs.specs.declared.status.Status.TheVariants.{Done, EvidenceFault}
-use Rattle.runs.proofs.Answering.{AreAnswered, HasAnswer, IsAnswered, by_the_one}
+use Rattle.runs.proofs.Answering.{AreAnswered, HasAnswer, IsAnswered, by_the_one, one_of_two}
 use Rattle.evidence_answers.specs.Files.{ReportsEvidenceLine, evidence_file}
 use Rattle.evidence_answers.specs.Texts.{claim_lines, refusal_line}
 use Rattle.evidence_answers.specs.Verify.{OfEvidence, OfVerify, ReportsClaims, ReportsRefusal, verify_rows}
@@ -31,19 +30,16 @@ claims_or_refusal contents net bytes text line h k =
     let same = one_bundle k.0 h.0 bytes k.2 h.1 in
     (one_bundle_verdict net h.0).not_both k.1 h.2 (subst (λ (es : List PlainEvidence). IsFirstRefused net es k.1) same k.3)
 
--- evidence has one status
-pub same_status : (contents : PlainDocument) (net : PlainNet) (evidence : List ℕ) (status other : Status) (text line : List ℕ) → OfEvidence contents net evidence status text → OfEvidence contents net evidence other line → status ≡ other
-same_status contents net evidence Done Done text line h k = refl
-same_status contents net evidence Done EvidenceFault text line h (inl k) = absurd (k.0 h.0 h.1)
-same_status contents net evidence Done EvidenceFault text line h (inr k) = absurd (claims_or_refusal contents net evidence text line h k)
-same_status contents net evidence EvidenceFault Done text line (inl h) k = absurd (h.0 k.0 k.1)
-same_status contents net evidence EvidenceFault Done text line (inr h) k = absurd (claims_or_refusal contents net evidence line text k h)
-same_status contents net evidence EvidenceFault EvidenceFault text line h k = refl
-same_status contents net evidence Done other text line h k = absurd k
-same_status contents net evidence EvidenceFault other text line h k = absurd k
-same_status contents net evidence status other text line h k = absurd h
+either : (contents : PlainDocument) (net : PlainNet) (bytes : List ℕ) (status : Status) (text : List ℕ) → OfEvidence contents net bytes status text → (status ≡ Done) ⊎ (status ≡ EvidenceFault)
+either contents net bytes Done text h = inl refl
+either contents net bytes EvidenceFault text h = inr refl
+either contents net bytes status text h = absurd h
 
--- one fault of it is reported
+claims_or_fault : (contents : PlainDocument) (net : PlainNet) (bytes text line : List ℕ) → ReportsClaims contents net bytes text → ReportsEvidenceLine bytes line ⊎ ReportsRefusal net bytes line → ⊥
+claims_or_fault contents net bytes text line h (inl k) = k.0 h.0 h.1
+claims_or_fault contents net bytes text line h (inr k) = claims_or_refusal contents net bytes text line h k
+
+-- one fault is reported
 same_fault : (net : PlainNet) (bytes : List ℕ) (text line : List ℕ) → ReportsEvidenceLine bytes text ⊎ ReportsRefusal net bytes text → ReportsEvidenceLine bytes line ⊎ ReportsRefusal net bytes line → text ≡ line
 same_fault net bytes text line (inl h) (inl k) = one_report (codes "evidence line ") bytes text line h k
 same_fault net bytes text line (inl h) (inr k) = absurd (h.0 k.0 k.2)
@@ -52,16 +48,9 @@ same_fault net bytes text line (inr h) (inr k) =
     let same = one_bundle h.0 k.0 bytes h.2 k.2 in
     h.4 ∙ ap refusal_line ((one_bundle_verdict net k.0).one_refusal h.1 k.1 (subst (λ (es : List PlainEvidence). IsFirstRefused net es h.1) same h.3) k.3) ∙ sym k.4
 
--- and one text for it
-pub same_text : (contents : PlainDocument) (net : PlainNet) (bytes : List ℕ) (status : Status) (text line : List ℕ) → OfEvidence contents net bytes status text → OfEvidence contents net bytes status line → text ≡ line
-same_text contents net bytes Done text line h k = h.4 ∙ ap (claim_lines contents) (one_bundle h.0 k.0 bytes h.1 k.1) ∙ sym k.4
-same_text contents net bytes EvidenceFault text line h k = same_fault net bytes text line h k
-same_text contents net bytes status text line h k = absurd h
-
-whole : (contents : PlainDocument) (net : PlainNet) (evidence : List ℕ) (status : Status) (text : List ℕ) → OfEvidence contents net evidence status text → is_broken_off status ≡ false
-whole contents net evidence Done text h = refl
-whole contents net evidence EvidenceFault text h = refl
-whole contents net evidence status text h = absurd h
+-- and one text of claims
+same_claims : (contents : PlainDocument) (net : PlainNet) (bytes text line : List ℕ) → ReportsClaims contents net bytes text → ReportsClaims contents net bytes line → text ≡ line
+same_claims contents net bytes text line h k = h.4 ∙ ap (claim_lines contents) (one_bundle h.0 k.0 bytes h.1 k.1) ∙ sym k.4
 
 some : (contents : PlainDocument) (net : PlainNet) (bytes : List ℕ) → HasAnswer (OfEvidence contents net bytes)
 some contents net bytes = elim (bundle_or_bad_line bytes) [
@@ -72,13 +61,10 @@ some contents net bytes = elim (bundle_or_bad_line bytes) [
   ]
 ]
 
-of_evidence : (contents : PlainDocument) (net : PlainNet) (bytes : List ℕ) → IsAnswered ⊤ (OfEvidence contents net bytes) (λ status. ⊥)
-of_evidence contents net bytes = record {
-  some = λ given. some contents net bytes;
-  one_status = same_status contents net bytes;
-  whole = whole contents net bytes;
-  one_text = λ status text line determined. same_text contents net bytes status text line;
-}
+pub of_evidence : (contents : PlainDocument) (net : PlainNet) (bytes : List ℕ) → IsAnswered ⊤ (OfEvidence contents net bytes) (λ status. ⊥)
+of_evidence contents net bytes = one_of_two (OfEvidence contents net bytes) (λ status. ⊥) Done EvidenceFault refl refl
+    (either contents net bytes) (claims_or_fault contents net bytes)
+    (λ text line determined. same_claims contents net bytes text line) (λ text line determined. same_fault net bytes text line) (λ given. some contents net bytes)
 
 pub verify_judged : IsAnsweredByDocument OfVerify (λ contents bytes status. ⊥)
 verify_judged doc contents says bytes =

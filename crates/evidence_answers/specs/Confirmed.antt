@@ -7,14 +7,14 @@ use Rattle.seconds_build.specs.Built.{IsTimedOf}
 use Rattle.seconds_check.specs.Confirmed.{IsConfirmed}
 use Rattle.seconds_check.specs.Refusals.{AreSecondsRefused}
 use Rattle.seconds_check.specs.declared.refusal.SecondsReason.{SecondsReason}
-use Rattle.seconds_core.specs.Evidence.{PlainEvidence}
+use Rattle.seconds_core.specs.Evidence.{PlainSeconds}
 use Rattle.seconds_core.specs.Timed.{PlainTimed}
-use Rattle.seconds_format.specs.Begun.{IsBadLine}
-use Rattle.seconds_format.specs.Texts.{IsText}
+use Rattle.seconds_format.specs.Begun.{IsBadSecondsLine}
+use Rattle.seconds_format.specs.Texts.{IsSecondsText}
 use Rattle.runs.specs.Rows.{File, Rows}
 use Rattle.runs.specs.declared.status.Status.{Status}
 use Rattle.runs.specs.declared.status.Status.TheVariants.{Done, EvidenceFault}
-use Rattle.evidence_answers.specs.ConfirmTexts.{claim_line, refusal_line}
+use Rattle.evidence_answers.specs.ConfirmTexts.{seconds_claim_line, seconds_refusal_line}
 
 -- the file of a name that is read as a placing or a cycle
 abbrev pub seconds_file : List ℕ → File
@@ -22,19 +22,19 @@ seconds_file name = record { name = name; word = codes "SECONDS"; limit = max_ev
 
 -- the bytes are the text of a placing that is one, or of a negative cycle that is one, and the text says which
 abbrev pub ReportsClaim : PlainTimed → List ℕ → List ℕ → Type 0
-ReportsClaim timed bytes text = (e : PlainEvidence) × IsText e bytes × IsConfirmed timed e × (text ≡ claim_line e)
+ReportsClaim timed bytes text = (e : PlainSeconds) × IsSecondsText e bytes × IsConfirmed timed e × (text ≡ seconds_claim_line e)
 
 -- the bytes are the text of neither, and the bad line is reported
 abbrev pub ReportsBadLine : List ℕ → List ℕ → Type 0
-ReportsBadLine bytes text = ((e : PlainEvidence) → IsText e bytes → ⊥) × (line : ℕ) × IsBadLine bytes line × (text ≡ numbered (codes "evidence line ") line)
+ReportsBadLine bytes text = ((e : PlainSeconds) → IsSecondsText e bytes → ⊥) × (line : ℕ) × IsBadSecondsLine bytes line × (text ≡ numbered (codes "evidence line ") line)
 
 -- the bytes are the text of a placing or a cycle that is refused, and the first reason is reported
-abbrev pub ReportsRefusal : PlainTimed → List ℕ → List ℕ → Type 0
-ReportsRefusal timed bytes text = (e : PlainEvidence) × (reason : SecondsReason) × IsText e bytes × AreSecondsRefused timed e reason × (text ≡ refusal_line reason)
+abbrev pub ReportsSecondsRefusal : PlainTimed → List ℕ → List ℕ → Type 0
+ReportsSecondsRefusal timed bytes text = (e : PlainSeconds) × (reason : SecondsReason) × IsSecondsText e bytes × AreSecondsRefused timed e reason × (text ≡ seconds_refusal_line reason)
 
 abbrev pub OfText : PlainTimed → List ℕ → Status → List ℕ → Type 0
 OfText timed bytes Done text = ReportsClaim timed bytes text
-OfText timed bytes EvidenceFault text = ReportsBadLine bytes text ⊎ ReportsRefusal timed bytes text
+OfText timed bytes EvidenceFault text = ReportsBadLine bytes text ⊎ ReportsSecondsRefusal timed bytes text
 OfText timed bytes other text = ⊥
 
 -- the answer to a text, by the net of an accepted document with the limits of its intervals

@@ -4,7 +4,7 @@ use Rattle.seconds_build.specs.Built.{IsTimedOf}
 use Rattle.seconds_core.specs.Evidence.{Placed}
 use Rattle.seconds_core.specs.Placed.{HasPlacing, IsPlaced}
 use Rattle.seconds_core.specs.Timed.{PlainTimed}
-use Rattle.seconds_format.specs.Texts.{IsText}
+use Rattle.seconds_format.specs.Texts.{IsSecondsText}
 use Rattle.tml_accept.specs.Acceptance.{Says}
 use Rattle.tml_io.specs.Files.{Files, held}
 use Rattle.tml_refs.specs.Documents.{PlainDocument}
@@ -22,7 +22,7 @@ pub record HoldsTimed (files : Files) (name : List ℕ) (timed : PlainTimed) : T
 
 -- a file holds the text of a placing
 abbrev pub HoldsPlacing : Files → List ℕ → PlainTimed → Type 0
-HoldsPlacing files name timed = (bytes : List ℕ) × (seconds : List ℤ) × (held files name ≡ Some bytes) × IsText (Placed seconds) bytes × IsPlaced timed seconds
+HoldsPlacing files name timed = (bytes : List ℕ) × (seconds : List ℤ) × (held files name ≡ Some bytes) × IsSecondsText (Placed seconds) bytes × IsPlaced timed seconds
 
 -- where the reply is `confirmed placing`, the other file holds the text of a placing of the document
 abbrev pub PlacingIsTrue : Type 0

@@ -52,7 +52,7 @@ impl JudgedQuery for Confirm {
 /// The answer to what is confirmed: what it is.
 fn confirmed_answer(alloc: Global, evidence: &SecondsEvidence) -> Result<Answer, AllocError>
     ensures finding { IfOk result (λ answer. answer.finding ≡ Finding.Done) }
-    ensures text { IfOk result (λ answer. answer.text.items ≡ texts.claim_line (evidence_of evidence.now)) }
+    ensures text { IfOk result (λ answer. answer.text.items ≡ texts.seconds_claim_line (evidence_of evidence.now)) }
 {
     let line = match evidence {
         SecondsEvidence::Placing(_) => Vec::from_slice(alloc, b"confirmed placing\n")?,
@@ -64,7 +64,7 @@ fn confirmed_answer(alloc: Global, evidence: &SecondsEvidence) -> Result<Answer,
 /// The answer to what is refused: the reason.
 fn refused_answer(alloc: Global, reason: SecondsReason) -> Result<Answer, AllocError>
     ensures finding { IfOk result (λ answer. answer.finding ≡ Finding.EvidenceFault) }
-    ensures text { IfOk result (λ answer. answer.text.items ≡ texts.refusal_line reason) }
+    ensures text { IfOk result (λ answer. answer.text.items ≡ texts.seconds_refusal_line reason) }
 {
     let mut text = Vec::from_slice(alloc, b"seconds ")?;
     push_reason(&mut text, reason)?;
@@ -76,7 +76,7 @@ fn refused_answer(alloc: Global, reason: SecondsReason) -> Result<Answer, AllocE
 
 /// Appends a reason, with its number.
 fn push_reason(out: &mut Vec<u8>, reason: SecondsReason) -> Result<(), AllocError>
-    ensures { OnOk result (out.new.items ≡ out.old.items ++ texts.reason_text reason) }
+    ensures { OnOk result (out.new.items ≡ out.old.items ++ texts.seconds_reason_text reason) }
 {
     match reason {
         SecondsReason::Size { size } => push_numbered(out, b"Size ", u64::from(size)),

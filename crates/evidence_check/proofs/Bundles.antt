@@ -7,6 +7,7 @@ use Rattle.std.proofs.lemmas.List.{get_or_append_left, get_or_past, length-map, 
 use Rattle.std.proofs.lemmas.List.Elements.{All-append, All-cons, All-nil, All-from_get_or}
 use Rattle.std.proofs.Math.ListN.{get_or-map}
 use Rattle.std.proofs.Math.Seq.{get_or-append_seam}
+use Rattle.std.proofs.lemmas.Option.{same_Some}
 use Rattle.net_core.specs.Nets.{PlainNet}
 use Rattle.net_core.proofs.FirstLaws.{one_first, first_or_none}
 use Rattle.evidence_format.specs.Numbers.{IsPair}
@@ -98,10 +99,6 @@ refused_of_all net claims k e refused below is first =
 pub not_supported : (net : PlainNet) (es : List PlainEvidence) (refused : RefusedClaim) → IsFirstRefused net es refused → AreSupported net es → ⊥
 not_supported net es refused first all = first.0.1 (all refused.claim (timeline []) first.0.0)
 
--- two numbers that are first are one
-some_is : (m n : ℕ) → Some m ≡ Some n → m ≡ n
-some_is m n e = cc
-
 -- refused claims of one number, and for one reason, are one
 same_claim : (r s : RefusedClaim) → r.claim ≡ s.claim → r.refused ≡ s.refused → r ≡ s
 same_claim r s claim refused = λ i. record { claim = claim i; refused = refused i }
@@ -109,7 +106,7 @@ same_claim r s claim refused = λ i. record { claim = claim i; refused = refused
 -- one claim at most is refused first, and for one reason
 one_refusal : (net : PlainNet) (es : List PlainEvidence) (r s : RefusedClaim) → IsFirstRefused net es r → IsFirstRefused net es s → r ≡ s
 one_refusal net es r s h k =
-    let claim = some_is r.claim s.claim (one_first (length es) (IsSupportedAt net es) (Some r.claim) (Some s.claim) h.0 k.0) in
+    let claim = same_Some r.claim s.claim (one_first (length es) (IsSupportedAt net es) (Some r.claim) (Some s.claim) h.0 k.0) in
     let bad : IsRefused net (claim_at es s.claim) r.refused = subst (λ (n : ℕ). IsRefused net (claim_at es n) r.refused) claim h.1 in
     same_claim r s claim ((one_verdict net (claim_at es s.claim)).one_refusal r.refused s.refused bad k.1)
 

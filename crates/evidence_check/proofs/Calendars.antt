@@ -16,12 +16,12 @@ use Rattle.net_core.specs.Relations.{Timeline}
 use Rattle.evidence_check.specs.declared.calendar.Event.{Event}
 use Rattle.evidence_check.specs.declared.calendar.Kind.{Kind}
 use Rattle.evidence_check.specs.declared.calendar.Kind.TheVariants.{Upper, Lower, Past}
-use Rattle.evidence_check.specs.Calendar.{Allow, AreEvents, AreInOrder, IsAllowedAt, IsCalendar, IsEvent, KeepsEvents, event_at, events_of, least_after, number_of, place_cmp, place_of, turn_of}
+use Rattle.evidence_check.specs.Calendar.{Allow, AreEvents, AreEventsInOrder, IsAllowedAt, IsCalendar, IsEvent, KeepsEvents, event_at, events_of, least_after, calendar_number, place_cmp, event_key, turn_of}
 
 -- ---- the events of a net, point by point
 
 -- the event of a point of the net at its number is one of the net
-events_right : (net : PlainNet) (kind : Kind) (p : ℕ) (number : Option ℤ) → p < points net → number_of kind net p ≡ number → All (IsEvent net) (events_of kind p number)
+events_right : (net : PlainNet) (kind : Kind) (p : ℕ) (number : Option ℤ) → p < points net → calendar_number kind net p ≡ number → All (IsEvent net) (events_of kind p number)
 events_right net kind p (Some x) below is = All-cons (IsEvent net) (record { number = x; point = p; kind = kind }) [] (below, is) (All-nil (IsEvent net))
 events_right net kind p None below is = All-nil (IsEvent net)
 
@@ -42,7 +42,7 @@ more_events net p es below h = record {
   right = All-append (IsEvent net) ((es ++ uppers) ++ lowers) pasts
       (All-append (IsEvent net) (es ++ uppers) lowers (All-append (IsEvent net) es uppers h.right (events_right net Upper p (upper net p) below refl)) (events_right net Lower p (lower net p) below refl))
       (events_right net Past p (upper net p) below refl);
-  whole = λ kind q x lq is. below_more (λ (r : ℕ). number_of kind net r ≡ Some x → Contains all (record { number = x; point = r; kind = kind })) p
+  whole = λ kind q x lq is. below_more (λ (r : ℕ). calendar_number kind net r ≡ Some x → Contains all (record { number = x; point = r; kind = kind })) p
       (λ r lr e. Contains-append_left ((es ++ uppers) ++ lowers) pasts _ (Contains-append_left (es ++ uppers) lowers _ (Contains-append_left es uppers _ (h.whole kind r x lr e))))
       (last kind x) q lq is;
 }
@@ -59,7 +59,7 @@ more_events net p es below h = record {
     all : List Event
     all = ((es ++ uppers) ++ lowers) ++ pasts
 
-    last : (kind : Kind) (x : ℤ) → number_of kind net p ≡ Some x → Contains all (record { number = x; point = p; kind = kind })
+    last : (kind : Kind) (x : ℤ) → calendar_number kind net p ≡ Some x → Contains all (record { number = x; point = p; kind = kind })
     last Upper x e =
         Contains-append_left ((es ++ uppers) ++ lowers) pasts _ (Contains-append_left (es ++ uppers) lowers _ (Contains-append_right es uppers _ (has_event Upper p x (upper net p) e)))
     last Lower x e = Contains-append_left ((es ++ uppers) ++ lowers) pasts _ (Contains-append_right (es ++ uppers) lowers _ (has_event Lower p x (lower net p) e))
@@ -109,11 +109,11 @@ abbrev none : Event
 none = event_at [] 0
 
 -- a later event does not come before an earlier one
-in_order : (es : List Event) (i j : ℕ) → AreInOrder es → i ≤ j → j < length es → is_lt (place_cmp (place_of (event_at es j)) (place_of (event_at es i))) ≡ false
-in_order es i j sorted le below = sorted_far (λ (x y : Event). is_lt (place_cmp (place_of x) (place_of y))) (ranks_by place_total place_of) es sorted i j none le below
+in_order : (es : List Event) (i j : ℕ) → AreEventsInOrder es → i ≤ j → j < length es → is_lt (place_cmp (event_key (event_at es j)) (event_key (event_at es i))) ≡ false
+in_order es i j sorted le below = sorted_far (λ (x y : Event). is_lt (place_cmp (event_key x) (event_key y))) (ranks_by place_total event_key) es sorted i j none le below
 
 -- an event that comes first stands before
-stands_before : (es : List Event) (i j : ℕ) → AreInOrder es → i < length es → is_lt (place_cmp (place_of (event_at es i)) (place_of (event_at es j))) ≡ true → i < j
+stands_before : (es : List Event) (i j : ℕ) → AreEventsInOrder es → i < length es → is_lt (place_cmp (event_key (event_at es i)) (event_key (event_at es j))) ≡ true → i < j
 stands_before es i j sorted below first = elim (cases_lt i j) [
   | inl less ↦ less
   | inr le ↦ absurd (let not_so = in_order es j i sorted le below in cc)
@@ -141,7 +141,7 @@ module _ (es : List Event) (t : Timeline) (i least : ℕ) (is : (rank : ℕ) →
 
 module _ (net : PlainNet) (es : List Event) (t : Timeline) (h : IsCalendar net es) where
   -- where an event of a point stands
-  place : (kind : Kind) (p : ℕ) (x : ℤ) → p < points net → number_of kind net p ≡ Some x → (k : ℕ) × (k < length es) × (event_at es k ≡ record { number = x; point = p; kind = kind })
+  place : (kind : Kind) (p : ℕ) (x : ℤ) → p < points net → calendar_number kind net p ≡ Some x → (k : ℕ) × (k < length es) × (event_at es k ≡ record { number = x; point = p; kind = kind })
   place kind p x below is =
       let one : Event = record { number = x; point = p; kind = kind } in
       let there = h.complete.whole kind p x below is in
@@ -149,9 +149,9 @@ module _ (net : PlainNet) (es : List Event) (t : Timeline) (h : IsCalendar net e
 
   -- the events of a point that come before the lower number of another allow the rank of the other
   allowed : (a b : Event) (i j : ℕ) → event_at es i ≡ a → event_at es j ≡ b → i < length es → j < length es → b.kind ≡ Lower
-      → is_lt (place_cmp (place_of a) (place_of b)) ≡ true → KeepsEvents es t → least_after a.kind (t a.point) ≤ t b.point
+      → is_lt (place_cmp (event_key a) (event_key b)) ≡ true → KeepsEvents es t → least_after a.kind (t a.point) ≤ t b.point
   allowed a b i j ia jb li lj lower first kept =
-      let first_here : is_lt (place_cmp (place_of (event_at es i)) (place_of (event_at es j))) ≡ true = rw (ia, jb) first in
+      let first_here : is_lt (place_cmp (event_key (event_at es i)) (event_key (event_at es j))) ≡ true = rw (ia, jb) first in
       let lower_here : (event_at es j).kind ≡ Lower = subst (λ (e : Event). e.kind ≡ Lower) (sym jb) lower in
       let least = kept j lj lower_here i (stands_before es i j h.in_order li first_here) in
       subst (λ (e : Event). least_after a.kind (t a.point) ≤ t e.point) jb (subst (λ (e : Event). least_after e.kind (t e.point) ≤ t (event_at es j).point) ia least)
@@ -169,7 +169,7 @@ module _ (net : PlainNet) (es : List Event) (t : Timeline) (h : IsCalendar net e
   by_numbers None l p q lp lq iu il kept = tt
 
   -- what an event asks of a later one, by its kind
-  by_kind : (kind : Kind) (p m n : ℕ) (x y : ℤ) → number_of kind net p ≡ Some x → FollowsNumbers (upper net p) (Some y) m n → is_lt (place_cmp (y, 1) (place_of (record { number = x; point = p; kind = kind }))) ≡ false
+  by_kind : (kind : Kind) (p m n : ℕ) (x y : ℤ) → calendar_number kind net p ≡ Some x → FollowsNumbers (upper net p) (Some y) m n → is_lt (place_cmp (y, 1) (event_key (record { number = x; point = p; kind = kind }))) ≡ false
       → least_after kind m ≤ n
   by_kind Upper p m n x y is follows late =
       let both : FollowsNumbers (Some x) (Some y) m n = subst (λ (u : Option ℤ). FollowsNumbers u (Some y) m n) is follows in
@@ -195,8 +195,8 @@ module _ (net : PlainNet) (es : List Event) (t : Timeline) (h : IsCalendar net e
       let li : i < length es = omega arith in
       let ra = All-get_or (IsEvent net) es i none li h.complete.right in
       let rb = All-get_or (IsEvent net) es j none lj h.complete.right in
-      let number : lower net b.point ≡ Some b.number = subst (λ (kind : Kind). number_of kind net b.point ≡ Some b.number) is_lower rb.1 in
-      let late : is_lt (place_cmp (b.number, 1) (place_of a)) ≡ false = subst (λ (kind : Kind). is_lt (place_cmp (b.number, turn_of kind) (place_of a)) ≡ false) is_lower (in_order es i j h.in_order (omega arith) lj) in
+      let number : lower net b.point ≡ Some b.number = subst (λ (kind : Kind). calendar_number kind net b.point ≡ Some b.number) is_lower rb.1 in
+      let late : is_lt (place_cmp (b.number, 1) (event_key a)) ≡ false = subst (λ (kind : Kind). is_lt (place_cmp (b.number, turn_of kind) (event_key a)) ≡ false) is_lower (in_order es i j h.in_order (omega arith) lj) in
       let follows : FollowsNumbers (upper net a.point) (Some b.number) (t a.point) (t b.point) =
       subst (λ (l : Option ℤ). FollowsNumbers (upper net a.point) l (t a.point) (t b.point)) number (all a.point b.point ra.0 rb.0) in
       by_kind a.kind a.point (t a.point) (t b.point) a.number b.number ra.1 follows late

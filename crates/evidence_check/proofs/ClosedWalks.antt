@@ -1,7 +1,7 @@
 -- Closed walks over the cited links, and why steps do not.
-use Rattle.std.proofs.Common.{◌≡◌, inl, inr, ℕ, ◌+◌, ◌≤◌, Bool, true, false, List, [], ◌∷◌, length, take, Some, None, refl, sym, ap, subst, ◌∙◌, arith}
+use Rattle.std.proofs.Common.{◌≡◌, inl, inr, ℕ, ◌+◌, ◌≤◌, false, List, [], ◌∷◌, length, take, Some, None, refl, sym, ap, subst, ◌∙◌, arith}
 use Rattle.std.proofs.Math.Bool.{not}
-use Rattle.std.proofs.lemmas.Bool.{cases_lt}
+use Rattle.std.proofs.lemmas.Bool.{cases_lt, not-false}
 use Rattle.net_core.specs.Clashes.{Agrees, IsClosedOver}
 use Rattle.net_core.specs.Firsts.{IsFirst}
 use Rattle.net_core.specs.Fits.{EveryLink}
@@ -14,9 +14,9 @@ use Rattle.net_core.proofs.FirstLaws.{one_first}
 use Rattle.net_core.proofs.WalkLaws.{joined_take, one_end}
 use Rattle.evidence_check.specs.declared.refusal.Reason.{Reason}
 use Rattle.evidence_check.specs.declared.refusal.Reason.TheVariants.{Number, Size, Order, Link, Calendar, Step, End, Weak, Cited, Holds}
-use Rattle.evidence_check.specs.declared.walks.Reached.{Reached}
-use Rattle.evidence_check.specs.Following.{LeadsTo}
-use Rattle.evidence_check.specs.Refusals.{GoOn, IsNoClosedWalk}
+use Rattle.evidence_check.specs.declared.walks.WalkEnd.{WalkEnd}
+use Rattle.evidence_check.specs.Following.{StepsLeadTo}
+use Rattle.evidence_check.specs.Refusals.{StepsGoOn, IsNoClosedWalk}
 use Rattle.evidence_check.proofs.Proving.{goes_less}
 
 module _ (net : PlainNet) where
@@ -35,34 +35,30 @@ module _ (net : PlainNet) where
       same ∙ one_end net EveryLink (step ∷ steps) x x z h (subst (λ (w : ℕ). IsJoined net EveryLink (step ∷ steps) w z) same k)
 
   -- steps that lead back, one of them strict, are a closed walk
-  pub leads_closed : (cites : List ℕ) (steps : List StepOf) (x : ℕ) (reached : Reached) → LeadsTo net x steps reached → reached.at ≡ x → not reached.strict ≡ false
+  pub leads_closed : (cites : List ℕ) (steps : List StepOf) (x : ℕ) (reached : WalkEnd) → StepsLeadTo net x steps reached → reached.at ≡ x → not reached.strict ≡ false
       → IsFirst (length net.links) (Agrees cites steps) None → IsClosedOver net cites steps
   leads_closed cites steps x reached leads back strict agree =
-      ((x, (subst (λ (y : ℕ). IsJoined net EveryLink steps x y) back leads.0, λ asked. sym leads.1 ∙ is_set reached.strict strict)), agree)
-    where
-      is_set : (b : Bool) → not b ≡ false → b ≡ true
-      is_set true e = refl
-      is_set false e = absurd cc
+      ((x, (subst (λ (y : ℕ). IsJoined net EveryLink steps x y) back leads.0, λ asked. sym leads.1 ∙ not-false reached.strict strict)), agree)
 
   -- joined steps go on to each place before their end
-  on_whole : (x y k : ℕ) (all : List StepOf) → IsJoined net EveryLink all x y → GoOn net (take k all)
+  on_whole : (x y k : ℕ) (all : List StepOf) → IsJoined net EveryLink all x y → StepsGoOn net (take k all)
   on_whole x y k all joined = let part = joined_take net EveryLink all x y k joined in (x, (part.0, part.1))
 
   -- steps that are a closed walk over the cited links are refused for no reason
   pub closed_not_both : (cites : List ℕ) (all : List StepOf) (reason : Reason) → IsClosedOver net cites all → IsNoClosedWalk net cites all reason → ⊥
-  closed_not_both cites all (Step k) round h = h.2 (on_whole round.0.0 round.0.0 (k + 1) all round.0.1.0)
-  closed_not_both cites all End round h = h.3 (ends_alike all round.0.0 h.0 h.1 round.0.1.0 h.2)
-  closed_not_both cites all Weak round h = let e = round.0.1.1 refl in let f = h.2 in cc
-  closed_not_both cites all (Cited link) round h = h.1.1 (round.1 link h.1.0)
-  closed_not_both cites all (Number n) round h = h
-  closed_not_both cites all (Size n) round h = h
-  closed_not_both cites all (Order n) round h = h
-  closed_not_both cites all (Link n) round h = h
-  closed_not_both cites all (Calendar p q) round h = h
-  closed_not_both cites all Holds round h = h
+  closed_not_both cites all (Step k) closed h = h.2 (on_whole closed.0.0 closed.0.0 (k + 1) all closed.0.1.0)
+  closed_not_both cites all End closed h = h.3 (ends_alike all closed.0.0 h.0 h.1 closed.0.1.0 h.2)
+  closed_not_both cites all Weak closed h = let e = closed.0.1.1 refl in let f = h.2 in cc
+  closed_not_both cites all (Cited link) closed h = h.1.1 (closed.1 link h.1.0)
+  closed_not_both cites all (Number n) closed h = h
+  closed_not_both cites all (Size n) closed h = h
+  closed_not_both cites all (Order n) closed h = h
+  closed_not_both cites all (Link n) closed h = h
+  closed_not_both cites all (Calendar p q) closed h = h
+  closed_not_both cites all Holds closed h = h
 
   -- the first step that does not go on is one
-  one_stop : (j k : ℕ) (all : List StepOf) → GoOn net (take k all) → (GoOn net (take (j + 1) all) → ⊥) → k ≤ j
+  one_stop : (j k : ℕ) (all : List StepOf) → StepsGoOn net (take k all) → (StepsGoOn net (take (j + 1) all) → ⊥) → k ≤ j
   one_stop j k all goes stops = elim (cases_lt j k) [
     | inl less ↦ absurd (stops (goes.0, goes_less net goes.0 (j + 1) k all (omega arith) goes.1))
     | inr le ↦ le

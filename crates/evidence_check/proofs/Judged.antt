@@ -20,7 +20,7 @@ use Rattle.evidence_format.specs.Evidence.{PlainEvidence, timeline, entails, cou
 use Rattle.evidence_check.specs.declared.refusal.Reason.{Reason}
 use Rattle.evidence_check.specs.declared.refusal.Reason.TheVariants.{Number, Holds}
 use Rattle.evidence_check.specs.declared.refusal.Refused.{Refused}
-use Rattle.evidence_check.specs.Refusals.{IsBadNumber, IsMisfit, IsNoProof, IsOfLink, IsSpareAt, IsSpareRefused, Proves, SupportedOrRefused, atom_at, cite_at, ranks_at, walk_at}
+use Rattle.evidence_check.specs.Refusals.{IsBadNumber, IsMisfit, IsNoProof, IsCiteOfLink, IsSpareAt, IsSpareRefused, Proves, SupportedOrRefused, atom_at, cite_at, spare_ranks_at, walk_at}
 use Rattle.evidence_check.specs.Supported.{AllFitOthers, FitsOthers, IsProof}
 use Rattle.evidence_check.proofs.Deciding.{others}
 use Rattle.evidence_check.proofs.Proving.{not_both}
@@ -74,7 +74,7 @@ module _ (net : PlainNet) where
 
   -- as many timelines fit with all cited links but one each, or one of them is the first that does not
   judged_spares : (cites : List ℕ) (spares : List (List (ℕ × ℕ))) → length spares ≡ length cites → AllFitOthers net cites spares ⊎ ((refused : Refused) × IsSpareRefused net cites spares refused)
-  judged_spares cites spares size = elim (first_bad (IsSpareAt net cites spares) (λ i. IsMisfit net (Rest i) (ranks_of (ranks_at spares i))) (λ i. no_misfit net (Rest i) (ranks_of (ranks_at spares i))) spare (length cites)) [
+  judged_spares cites spares size = elim (first_bad (IsSpareAt net cites spares) (λ i. IsMisfit net (Rest i) (ranks_of (spare_ranks_at spares i))) (λ i. no_misfit net (Rest i) (ranks_of (spare_ranks_at spares i))) spare (length cites)) [
     | inr first ↦ inr (refusal (first.0 + 2) first.1, (first.0, first.2, refl, first.3))
     | inl all ↦ inl (zip_from (FitsOthers net cites) 0 [] cites spares size all)
   ]
@@ -83,19 +83,19 @@ module _ (net : PlainNet) where
       Rest : ℕ → ℕ → Type 0
       Rest i = Others (Contains cites) (cite_at cites i)
 
-      spare : (i : ℕ) → OrReason (IsSpareAt net cites spares i) (IsMisfit net (Rest i) (ranks_of (ranks_at spares i)))
-      spare i = fit_or_misfit net (Rest i) (others cites (cite_at cites i)) (ranks_at spares i)
+      spare : (i : ℕ) → OrReason (IsSpareAt net cites spares i) (IsMisfit net (Rest i) (ranks_of (spare_ranks_at spares i)))
+      spare i = fit_or_misfit net (Rest i) (others cites (cite_at cites i)) (spare_ranks_at spares i)
 
   judged_clash : (cites : List ℕ) (walk : List StepOf) (spares : List (List (ℕ × ℕ))) → SupportedOrRefused net (clash cites walk spares)
-  judged_clash cites walk spares well = elim (first_or_none (length cites) (IsOfLink net cites) (λ i. dec_lt (cite_at cites i) (length net.links))) [
+  judged_clash cites walk spares well = elim (first_or_none (length cites) (IsCiteOfLink net cites) (λ i. dec_lt (cite_at cites i) (length net.links))) [
     | inr first ↦ inr (refusal 0 (Number (cite_at cites first.0)), inl (refl, first.0, first.1, refl))
     | inl each ↦
         let links = All-from_get_or (λ (k : ℕ). k < length net.links) cites 0 each in
         elim (closed_or_none net cites walk) [
           | inr none ↦ inr (refusal 1 none.0, inr (inl (links, (refl, none.1))))
-          | inl round ↦ elim (judged_spares cites spares well.3) [
-            | inr refused ↦ inr (refused.0, inr (inr (links, round, refused.1)))
-            | inl all ↦ inl (links, round, all)
+          | inl closed ↦ elim (judged_spares cites spares well.3) [
+            | inr refused ↦ inr (refused.0, inr (inr (links, closed, refused.1)))
+            | inl all ↦ inl (links, closed, all)
           ]
         ]
   ]

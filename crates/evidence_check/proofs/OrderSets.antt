@@ -11,10 +11,10 @@ use Rattle.net_core.specs.declared.atom.Atom.{Atom}
 use Rattle.net_core.specs.declared.net.NetLink.{NetLink}
 use Rattle.net_core.specs.declared.rels.Rel.{Rel}
 use Rattle.evidence_check.specs.declared.orders.Orders.{Orders}
-use Rattle.evidence_check.specs.Orders.{AreFew, KeepsLinks}
+use Rattle.evidence_check.specs.Orders.{AreAtMost, KeepsLinksBelow}
 
 -- there are no more than a greater number
-pub few_up : (m n : ℕ) (orders : Orders) → m ≤ n → AreFew m orders → AreFew n orders
+pub few_up : (m n : ℕ) (orders : Orders) → m ≤ n → AreAtMost m orders → AreAtMost n orders
 few_up m n orders le few = record { befores = omega (arith, few.befores); no_laters = omega (arith, few.no_laters); equals = omega (arith, few.equals) }
 
 -- what is said otherwise
@@ -48,7 +48,7 @@ pub atoms_within : (n : ℕ) (r : Rel) (a b : ℕ) (atoms : List Atom) → atoms
 atoms_within n r a b atoms are la lb = subst (All (IsInRange (2 * n))) (sym are) (All-from_recursion (IsInRange (2 * n)) (atoms_of a r b) (atoms_in_range n r a b la lb))
 
 -- one link more
-pub links_more : (net : PlainNet) (t : Timeline) (k : ℕ) (New Old : Type 0) → New ↔ (Old × KeepsLink net t k) → Old ↔ KeepsLinks net k t → New ↔ KeepsLinks net (k + 1) t
+pub links_more : (net : PlainNet) (t : Timeline) (k : ℕ) (New Old : Type 0) → New ↔ (Old × KeepsLink net t k) → Old ↔ KeepsLinksBelow net k t → New ↔ KeepsLinksBelow net (k + 1) t
 links_more net t k New Old new old = (
   λ n. let h = new.0 n in below_more (KeepsLink net t) k (old.0 h.0) h.1,
   λ all. new.1 (old.1 (λ j below. all j (omega (arith, below))), all k (omega arith)),

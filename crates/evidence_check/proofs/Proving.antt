@@ -1,5 +1,5 @@
 -- Walks, and why steps are none.
-use Rattle.std.proofs.Common.{◌≡◌, ℕ, zero, suc, ◌+◌, ◌<◌, ◌≤◌, Bool, false, ◌||◌, List, [], ◌∷◌, length, take, get_or, slice_get, Option, Some, None, IfNone, refl, sym, ap, subst, ◌∙◌, arith, inl, inr}
+use Rattle.std.proofs.Common.{◌≡◌, ℕ, zero, suc, ◌+◌, ◌<◌, ◌≤◌, Bool, false, ◌||◌, List, [], ◌∷◌, length, take, get_or, slice_get, Some, refl, sym, ap, subst, ◌∙◌, arith, inl, inr}
 use Rattle.std.proofs.lemmas.Bool.{cases_lt}
 use Rattle.std.proofs.lemmas.List.{get_or_default, take_more}
 use Rattle.std.proofs.lemmas.Option.{get_or_from_slice_get}
@@ -14,17 +14,12 @@ use Rattle.net_core.specs.declared.step.Step.TheVariants as steps
 use Rattle.net_core.proofs.WalkLaws.{joined_push, joined_split, joined_take, one_end}
 use Rattle.evidence_check.specs.declared.refusal.Reason.{Reason}
 use Rattle.evidence_check.specs.declared.refusal.Reason.TheVariants.{Number, Size, Order, Link, Calendar, Step, End, Weak, Cited, Holds}
-use Rattle.evidence_check.specs.Refusals.{GoFrom, IsNoProof, atom_at, walk_at}
+use Rattle.evidence_check.specs.Refusals.{StepsGoFrom, IsNoProof, atom_at, walk_at}
 use Rattle.evidence_check.specs.Supported.{IsProof}
 
 -- what is read past the end of a list of steps
 abbrev pub no_step : StepOf
 no_step = steps.Link 0 0
-
--- nothing was answered
-pub none_given : {A P : Type 0} (o : Option A) → ((x : A) → o ≡ Some x → ⊥) → IfNone o P → P
-none_given None not given = given
-none_given (Some x) not given = absurd (not x refl)
 
 -- an atom and a walk that were read are those of their number
 pub atom_is : (atoms : List Atom) (k : ℕ) (atom : Atom) → Some atom ≡ slice_get atoms k → atom ≡ atom_at atoms k
@@ -40,7 +35,7 @@ at_number P atoms walks k atom walk e f p = subst (λ (a : Atom). P a (walk_at w
 
 module _ (net : PlainNet) where
   -- steps that go on to their end do so to each place before it
-  pub goes_less : (x i k : ℕ) (all : List StepOf) → i ≤ k → GoFrom net x (take k all) → GoFrom net x (take i all)
+  pub goes_less : (x i k : ℕ) (all : List StepOf) → i ≤ k → StepsGoFrom net x (take k all) → StepsGoFrom net x (take i all)
   goes_less x i k all le goes =
       let less = joined_take net EveryLink (take k all) x goes.0 i goes.1 in
       (less.0, subst (λ (some : List StepOf). IsJoined net EveryLink some x less.0) (take_take i k all le) less.1)
@@ -51,7 +46,7 @@ module _ (net : PlainNet) where
       take_take (suc i) (suc k) [] le = refl
       take_take (suc i) (suc k) (s ∷ all) le = ap (λ (some : List StepOf). s ∷ some) (take_take i k all (omega arith))
 
-  pub goes_whole : (x y k : ℕ) (all : List StepOf) → IsJoined net EveryLink all x y → GoFrom net x (take k all)
+  pub goes_whole : (x y k : ℕ) (all : List StepOf) → IsJoined net EveryLink all x y → StepsGoFrom net x (take k all)
   goes_whole x y k all joined = joined_take net EveryLink all x y k joined
 
   -- a walk is refused for no reason
@@ -68,7 +63,7 @@ module _ (net : PlainNet) where
   not_both atom all Holds proof h = h
 
   -- the first step that does not go on is one
-  one_step : (x j k : ℕ) (all : List StepOf) → GoFrom net x (take k all) → (GoFrom net x (take (j + 1) all) → ⊥) → k ≤ j
+  one_step : (x j k : ℕ) (all : List StepOf) → StepsGoFrom net x (take k all) → (StepsGoFrom net x (take (j + 1) all) → ⊥) → k ≤ j
   one_step x j k all goes stops = elim (cases_lt j k) [
     | inl less ↦ absurd (stops (goes_less x (j + 1) k all (omega arith) goes))
     | inr le ↦ le
@@ -121,7 +116,7 @@ module _ (net : PlainNet) where
 
   -- the next step does not go on
   pub stops_here : (all : List StepOf) (i x y : ℕ) (strict : Bool) → i < length all → IsFollowed all i x y strict
-      → ((next : Atom) → atom_of net (get_or all i no_step) ≡ Some next → next.from ≡ y → ⊥) → GoFrom net x (take (i + 1) all) → ⊥
+      → ((next : Atom) → atom_of net (get_or all i no_step) ≡ Some next → next.from ≡ y → ⊥) → StepsGoFrom net x (take (i + 1) all) → ⊥
   stops_here all i x y strict lt so_far none goes =
       let parts = joined_split net EveryLink (take i all) (get_or all i no_step ∷ []) x goes.0
       (subst (λ (some : List StepOf). IsJoined net EveryLink some x goes.0) (take_more all i no_step lt) goes.1) in

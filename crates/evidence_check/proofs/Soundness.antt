@@ -13,11 +13,11 @@ use Rattle.net_core.specs.Ranks.{ranks_of, timeline_of}
 use Rattle.net_core.specs.declared.rels.Rel.{Rel}
 use Rattle.net_core.specs.declared.step.Step.{Step as StepOf}
 use Rattle.net_core.proofs.AtomLaws.{atoms_say_the_relation}
-use Rattle.net_core.proofs.WalkLaws.{over_links, round_clashes, round_over, walk_kept}
+use Rattle.net_core.proofs.WalkLaws.{over_links, closed_walk_clashes, closed_walk_over, walk_kept}
 use Rattle.net_core.specs.Entailment.{CanFail, Follows}
 use Rattle.evidence_format.specs.Evidence.{PlainEvidence, timeline, entails, counter, clash}
 use Rattle.evidence_check.specs.Claims.{ShowsTruth}
-use Rattle.evidence_check.specs.Refusals.{ranks_at}
+use Rattle.evidence_check.specs.Refusals.{spare_ranks_at}
 use Rattle.evidence_check.specs.Supported.{FitsOthers, IsSupported, ProveAll}
 
 -- a timeline that fits is in the order of each atom that is proved
@@ -31,13 +31,13 @@ supported_is_true net (timeline ranks) fit = (timeline_of (ranks_of ranks), fit.
 supported_is_true net (entails a r b walks) proofs = λ t fits. let atoms = atoms_of a r b in (atoms_say_the_relation t r a b).1 (all_kept net t atoms walks fits proofs.1)
 supported_is_true net (counter a r b ranks) fails = (timeline_of (ranks_of ranks), fails.1.1, fails.2)
 supported_is_true net (clash cites walk spares) shown =
-    let round = shown.1.0 in
+    let closed = shown.1.0 in
     record {
       links = shown.0;
-      clashes = round_clashes net (Contains cites) walk
-          (round_over net EveryLink (Contains cites) walk (λ k over. (shown.1.1 k (over_links net EveryLink walk round.0 round.0 k round.1.0 over)).0 over) round);
+      clashes = closed_walk_clashes net (Contains cites) walk
+          (closed_walk_over net EveryLink (Contains cites) walk (λ k over. (shown.1.1 k (over_links net EveryLink walk closed.0 closed.0 k closed.1.0 over)).0 over) closed);
       needed = All-from_get_or (λ (k : ℕ). (t : Timeline) × FitsWith net (Others (Contains cites) k) t) cites 0
-          (λ i lt. (timeline_of (ranks_of (ranks_at spares i)), (zip_at (FitsOthers net cites) 0 [] cites spares shown.2 i lt).1));
+          (λ i lt. (timeline_of (ranks_of (spare_ranks_at spares i)), (zip_at (FitsOthers net cites) 0 [] cites spares shown.2 i lt).1));
     }
 
 -- the same, of what a function answers

@@ -11,7 +11,7 @@ use Rattle.net_core.proofs.RankLaws.{ranks_again}
 use Rattle.evidence_format.specs.Evidence.{AreRanks}
 use Rattle.evidence_format.specs.Numbers.{IsNumber}
 use Rattle.evidence_check.specs.declared.refusal.Reason.{Reason}
-use Rattle.evidence_check.specs.Refusals.{IsMisfit, IsSpareAt, IsSpareRefused, cite_at, ranks_at}
+use Rattle.evidence_check.specs.Refusals.{IsMisfit, IsSpareAt, IsSpareRefused, cite_at, spare_ranks_at}
 use Rattle.evidence_check.proofs.Verdicts.{no_misfit}
 
 module _ (spares : List (List ℕ)) (i : ℕ) (ranks : List ℕ) (below : i < length spares) (same : ranks ≡ get_or spares i []) where
@@ -20,7 +20,7 @@ module _ (spares : List (List ℕ)) (i : ℕ) (ranks : List ℕ) (below : i < le
   pairs_are = ap pairs_of same ∙ sym (get_or-map pairs_of spares i [] [] below)
 
   -- so are the ranks
-  pub spare_is : AreEven ranks → ranks ≡ ranks_of (ranks_at (map pairs_of spares) i)
+  pub spare_is : AreEven ranks → ranks ≡ ranks_of (spare_ranks_at (map pairs_of spares) i)
   spare_is even = sym (ranks_again ranks even) ∙ ap ranks_of pairs_are
 
   -- and there are no more than can stand in a text
@@ -29,7 +29,7 @@ module _ (spares : List (List ℕ)) (i : ℕ) (ranks : List ℕ) (below : i < le
       let fit = All-get_or AreRanks (map pairs_of spares) i [] (omega (arith, below, length-map spares pairs_of)) all in
       subst (λ (pairs : List (ℕ × ℕ)). IsNumber (length pairs)) (sym pairs_are) fit.1
 
-module _ (net : PlainNet) (cites : List ℕ) (spares : List (List (ℕ × ℕ))) (i : ℕ) (ranks : List ℕ) (is : ranks ≡ ranks_of (ranks_at spares i)) where
+module _ (net : PlainNet) (cites : List ℕ) (spares : List (List (ℕ × ℕ))) (i : ℕ) (ranks : List ℕ) (is : ranks ≡ ranks_of (spare_ranks_at spares i)) where
   -- a timeline that fits is one of its number that does
   pub fits_others : RanksFitWith net (Others (Contains cites) (cite_at cites i)) ranks → IsSpareAt net cites spares i
   fits_others fits = subst (RanksFitWith net (Others (Contains cites) (cite_at cites i))) is fits
@@ -39,4 +39,4 @@ module _ (net : PlainNet) (cites : List ℕ) (spares : List (List (ℕ × ℕ)))
       → IsSpareRefused net cites spares (record { part = i + 2; reason = reason })
   spare_refused reason below so_far misfit =
       let there = subst (λ (r : List ℕ). IsMisfit net (Others (Contains cites) (cite_at cites i)) r reason) is misfit in
-      (i, (below, (λ fits. no_misfit net (Others (Contains cites) (cite_at cites i)) (ranks_of (ranks_at spares i)) reason fits there), so_far), refl, there)
+      (i, (below, (λ fits. no_misfit net (Others (Contains cites) (cite_at cites i)) (ranks_of (spare_ranks_at spares i)) reason fits there), so_far), refl, there)

@@ -2,6 +2,7 @@
 use Rattle.std.proofs.Common.{◌≡◌, inl, inr, false, ℕ, ◌+◌, ◌<◌, arith, ◌↔◌, List, [], length, Option, Some, None, Result, Ok, Err, IsOk, OnOk, IfErr, refl, ap, subst, sym, ◌∙◌}
 use Rattle.std.specs.List.{Contains}
 use Rattle.std.proofs.lemmas.List.Elements.{All-get_or}
+use Rattle.std.proofs.lemmas.Option.{same_Some}
 use Rattle.net_core.proofs.Lent.{zip_at}
 use Rattle.net_core.specs.Atoms.{atoms_of}
 use Rattle.net_core.specs.Clashes.{IsClosedOver, Others}
@@ -17,15 +18,11 @@ use Rattle.evidence_format.specs.Evidence.{PlainEvidence, timeline, entails, cou
 use Rattle.evidence_check.specs.declared.refusal.Reason.{Reason}
 use Rattle.evidence_check.specs.declared.refusal.Reason.TheVariants.{Number, Size, Order, Link, Calendar, Step, End, Weak, Cited, Holds}
 use Rattle.evidence_check.specs.declared.refusal.Refused.{Refused}
-use Rattle.evidence_check.specs.Refusals.{FirstBrokenLink, FirstBrokenPair, FirstUnordered, HasSize, IsBadNumber, IsCiteRefused, IsMisfit, IsNoProof, IsNumberRefused, IsOfLink, IsRefused, IsRelationRefused, IsClosedWalkRefused, IsSpareAt, IsSpareRefused, IsTimelineRefused, IsWalkRefused, OneVerdict, Proves, atom_at, cite_at, ranks_at, walk_at}
+use Rattle.evidence_check.specs.Refusals.{FirstBrokenLink, FirstBrokenPair, FirstUnordered, HasSize, IsBadNumber, IsCiteRefused, IsMisfit, IsNoProof, IsNumberRefused, IsCiteOfLink, IsRefused, IsRelationRefused, IsClosedWalkRefused, IsSpareAt, IsSpareRefused, IsTimelineRefused, IsWalkRefused, OneVerdict, Proves, atom_at, cite_at, spare_ranks_at, walk_at}
 use Rattle.evidence_check.specs.Supported.{AllFitOthers, AreLinks, FitsOthers, IsFalse, IsProof, IsSupported, ProveAll}
 use Rattle.evidence_check.proofs.Checks.{IsCheck, by_check, three_checks, two_checks}
 use Rattle.evidence_check.proofs.Proving.{one_reason}
 use Rattle.evidence_check.proofs.ClosedWalks.{one_closed, closed_not_both}
-
--- numbers that are found alike are one
-some_is : (m n : ℕ) → Some m ≡ Some n → m ≡ n
-some_is m n e = cc
 
 -- reasons with the same pair of points are one
 same_calendar : (x y : ℕ × ℕ) → Some x ≡ Some y → Calendar x.0 x.1 ≡ Calendar y.0 y.1
@@ -122,7 +119,7 @@ module _ (net : PlainNet) where
   walk_check atoms walks = record {
     not_both = λ r all h. h.1.1 (all h.0 h.1.0);
     once = λ r s h k.
-        let same = some_is h.0 k.0 (one_first (length atoms) (Proves net atoms walks) (Some h.0) (Some k.0) h.1 k.1) in
+        let same = same_Some h.0 k.0 (one_first (length atoms) (Proves net atoms walks) (Some h.0) (Some k.0) h.1 k.1) in
         one_refused r s (h.2 ∙ ap (λ (n : ℕ). n + 1) same ∙ sym k.2)
         (one_reason net (atom_at atoms k.0) (walk_at walks k.0) r.reason s.reason (subst (λ (n : ℕ). IsNoProof net (atom_at atoms n) (walk_at walks n) r.reason) same h.3) k.3);
   }
@@ -141,13 +138,13 @@ module _ (net : PlainNet) where
   cites_check cites = record {
     not_both = λ r all h. h.2.1 (All-get_or (λ (k : ℕ). k < length net.links) cites h.1 0 h.2.0 all);
     once = λ r s h k.
-        let same = some_is h.1 k.1 (one_first (length cites) (IsOfLink net cites) (Some h.1) (Some k.1) h.2 k.2) in
+        let same = same_Some h.1 k.1 (one_first (length cites) (IsCiteOfLink net cites) (Some h.1) (Some k.1) h.2 k.2) in
         one_refused r s (h.0 ∙ sym k.0) (h.3 ∙ ap (λ (i : ℕ). Number (cite_at cites i)) same ∙ sym k.3);
   }
 
   closed_check : (cites : List ℕ) (walk : List StepOf) → IsCheck (IsClosedOver net cites walk) (IsClosedWalkRefused net cites walk)
   closed_check cites walk = record {
-    not_both = λ r round h. closed_not_both net cites walk r.reason round h.1;
+    not_both = λ r closed h. closed_not_both net cites walk r.reason closed h.1;
     once = λ r s h k. one_refused r s (h.0 ∙ sym k.0) (one_closed net cites walk r.reason s.reason h.1 k.1);
   }
 
@@ -156,10 +153,10 @@ module _ (net : PlainNet) where
   spare_check cites spares = record {
     not_both = λ r all h. h.1.1 (all h.0 h.1.0);
     once = λ r s h k.
-        let same = some_is h.0 k.0 (one_first (length cites) (IsSpareAt net cites spares) (Some h.0) (Some k.0) h.1 k.1) in
+        let same = same_Some h.0 k.0 (one_first (length cites) (IsSpareAt net cites spares) (Some h.0) (Some k.0) h.1 k.1) in
         one_refused r s (h.2 ∙ ap (λ (n : ℕ). n + 2) same ∙ sym k.2)
-        (one_misfit net (Others (Contains cites) (cite_at cites k.0)) (ranks_of (ranks_at spares k.0)) r.reason s.reason
-        (subst (λ (n : ℕ). IsMisfit net (Others (Contains cites) (cite_at cites n)) (ranks_of (ranks_at spares n)) r.reason) same h.3) k.3);
+        (one_misfit net (Others (Contains cites) (cite_at cites k.0)) (ranks_of (spare_ranks_at spares k.0)) r.reason s.reason
+        (subst (λ (n : ℕ). IsMisfit net (Others (Contains cites) (cite_at cites n)) (ranks_of (spare_ranks_at spares n)) r.reason) same h.3) k.3);
   }
 
   spares_check : (cites : List ℕ) (spares : List (List (ℕ × ℕ))) → IsCheck (AllFitOthers net cites spares) (IsSpareRefused net cites spares)

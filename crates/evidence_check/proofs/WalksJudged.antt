@@ -14,7 +14,7 @@ use Rattle.net_core.specs.declared.step.Step.{Step as StepOf}
 use Rattle.net_core.proofs.FirstLaws.{first_or_none}
 use Rattle.net_core.proofs.WalkLaws.{uses_own}
 use Rattle.evidence_check.specs.declared.refusal.Reason.TheVariants.{Step, End, Weak, Cited}
-use Rattle.evidence_check.specs.Refusals.{GoFrom, GoOn, IsNoProof, IsNoClosedWalk}
+use Rattle.evidence_check.specs.Refusals.{StepsGoFrom, StepsGoOn, IsNoProof, IsNoClosedWalk}
 use Rattle.evidence_check.specs.Supported.{IsProof}
 use Rattle.evidence_check.proofs.Deciding.{agrees}
 use Rattle.evidence_check.proofs.ClosedWalks.{start_is}
@@ -42,39 +42,39 @@ module _ (net : PlainNet) where
   -- ---- steps that go on
 
   -- steps go on from a point where the first one begins there, and the others go on from where it leads
-  by_first : (step : StepOf) (rest : List StepOf) (a : Atom) (x : ℕ) → atom_of net step ≡ Some a → ((a.from ≡ x) × GoFrom net a.to rest) ↔ GoFrom net x (step ∷ rest)
+  by_first : (step : StepOf) (rest : List StepOf) (a : Atom) (x : ℕ) → atom_of net step ≡ Some a → ((a.from ≡ x) × StepsGoFrom net a.to rest) ↔ StepsGoFrom net x (step ∷ rest)
   by_first step rest a x e = (there, back)
     where
-      there : (a.from ≡ x) × GoFrom net a.to rest → GoFrom net x (step ∷ rest)
+      there : (a.from ≡ x) × StepsGoFrom net a.to rest → StepsGoFrom net x (step ∷ rest)
       there both = (both.1.0, (a, (e, uses_own EveryLink step (λ k own. tt)), both.0, both.1.1))
 
-      back : GoFrom net x (step ∷ rest) → (a.from ≡ x) × GoFrom net a.to rest
+      back : StepsGoFrom net x (step ∷ rest) → (a.from ≡ x) × StepsGoFrom net a.to rest
       back goes =
           let same : goes.1.0 ≡ a = same_Some _ _ (sym goes.1.1.0 ∙ e) in
           (start_is net step rest x goes.0 a goes.1 e, (goes.0, subst (λ (b : Atom). IsJoined net EveryLink rest b.to goes.0) same goes.1.3))
 
   -- whether steps go on from a point
-  go_from : (x : ℕ) (steps : List StepOf) → Dec (GoFrom net x steps)
+  go_from : (x : ℕ) (steps : List StepOf) → Dec (StepsGoFrom net x steps)
   go_from x [] = yes (x, refl)
   go_from x (step ∷ rest) = by_order (atom_of net step) refl (λ a. go_from a.to rest)
     where
-      by_order : (o : Option Atom) → atom_of net step ≡ o → ((a : Atom) → Dec (GoFrom net a.to rest)) → Dec (GoFrom net x (step ∷ rest))
+      by_order : (o : Option Atom) → atom_of net step ≡ o → ((a : Atom) → Dec (StepsGoFrom net a.to rest)) → Dec (StepsGoFrom net x (step ∷ rest))
       by_order (Some a) e more = Dec.of_iff (by_first step rest a x e) (Dec.and (ℕ_discrete a.from x) (more a))
       by_order None e more = no (λ goes. let is = goes.1.1.0 in cc)
 
   -- steps that go on from any point do so from where the first one begins
-  go_on : (steps : List StepOf) → Dec (GoOn net steps)
+  go_on : (steps : List StepOf) → Dec (StepsGoOn net steps)
   go_on [] = yes (0, (0, refl))
   go_on (step ∷ rest) = by_order (atom_of net step) refl
     where
-      by_order : (o : Option Atom) → atom_of net step ≡ o → Dec (GoOn net (step ∷ rest))
-      by_order (Some a) e = Dec.of_iff (λ goes. (a.from, goes), λ on. subst (λ (x : ℕ). GoFrom net x (step ∷ rest)) (sym (start_is net step rest on.0 on.1.0 a on.1.1 e)) on.1) (go_from a.from (step ∷ rest))
+      by_order : (o : Option Atom) → atom_of net step ≡ o → Dec (StepsGoOn net (step ∷ rest))
+      by_order (Some a) e = Dec.of_iff (λ goes. (a.from, goes), λ on. subst (λ (x : ℕ). StepsGoFrom net x (step ∷ rest)) (sym (start_is net step rest on.0 on.1.0 a on.1.1 e)) on.1) (go_from a.from (step ∷ rest))
       by_order None e = no (λ on. let is = on.1.1.1.0 in cc)
 
   -- ---- walks
 
   pub proof_or_none : (atom : Atom) (all : List StepOf) → OrReason (IsProof net atom all) (IsNoProof net atom all)
-  proof_or_none atom all = elim (all_or_stop (GoFrom net atom.from) (go_from atom.from) (atom.from, refl) all) [
+  proof_or_none atom all = elim (all_or_stop (StepsGoFrom net atom.from) (go_from atom.from) (atom.from, refl) all) [
     | inr stop ↦ inr (Step stop.0, stop.1)
     | inl goes ↦ elim (ℕ_discrete goes.0 atom.to) [
       | no other ↦ inr (End, (goes.0, goes.1, other))
@@ -89,7 +89,7 @@ module _ (net : PlainNet) where
       by_strict joined false some e f = inl (joined, λ strict. absurd cc)
 
   pub closed_or_none : (cites : List ℕ) (all : List StepOf) → OrReason (IsClosedOver net cites all) (IsNoClosedWalk net cites all)
-  closed_or_none cites all = elim (all_or_stop (GoOn net) go_on (0, (0, refl)) all) [
+  closed_or_none cites all = elim (all_or_stop (StepsGoOn net) go_on (0, (0, refl)) all) [
     | inr stop ↦ inr (Step stop.0, stop.1)
     | inl on ↦ elim (ℕ_discrete on.0 on.1.0) [
       | no other ↦ inr (End, (on.0, on.1.0, on.1.1, other))

@@ -4,8 +4,8 @@ use Rattle.std.specs.List.{Contains}
 use Rattle.net_core.specs.Clashes.{Others}
 use Rattle.net_core.specs.Fits.{EveryLink}
 use Rattle.net_core.specs.Nets.{PlainNet}
-use Rattle.evidence_check.specs.declared.timeline.Asked.{Asked}
-use Rattle.evidence_check.specs.declared.timeline.Asked.TheVariants as asked
+use Rattle.evidence_check.specs.declared.timeline.AskedLinks.{AskedLinks}
+use Rattle.evidence_check.specs.declared.timeline.AskedLinks.TheVariants as asked
 
 -- numbers of links, each below the next
 pub record AreRisingLinks (net : PlainNet) (cites : List ℕ) : Type 0 where
@@ -13,11 +13,11 @@ pub record AreRisingLinks (net : PlainNet) (cites : List ℕ) : Type 0 where
   pub links : (i : ℕ) → i < length cites → slice_index cites i < length net.links
 
 -- the set of links that are asked
-abbrev pub chosen : Asked → ℕ → Type 0
+abbrev pub chosen : AskedLinks → ℕ → Type 0
 chosen asked.All = EveryLink
 chosen (asked.Others cites own) = Others (Contains cites.now) own
 
 -- cites are to be numbers of links that rise
-abbrev pub CanBeAsked : PlainNet → Asked → Type 0
+abbrev pub CanBeAsked : PlainNet → AskedLinks → Type 0
 CanBeAsked net asked.All = ⊤
 CanBeAsked net (asked.Others cites own) = AreRisingLinks net cites.now

@@ -11,10 +11,10 @@ use Rattle.evidence_check.specs.declared.calendar.Kind.{Kind}
 use Rattle.evidence_check.specs.declared.calendar.Kind.TheVariants.{Upper, Lower, Past}
 
 -- the number of a point that an event of a kind has
-abbrev pub number_of : Kind → PlainNet → ℕ → Option ℤ
-number_of Upper net p = upper net p
-number_of Lower net p = lower net p
-number_of Past net p = upper net p
+abbrev pub calendar_number : Kind → PlainNet → ℕ → Option ℤ
+calendar_number Upper net p = upper net p
+calendar_number Lower net p = lower net p
+calendar_number Past net p = upper net p
 
 -- the event of a point at a number, where there is one
 abbrev pub events_of : Kind → ℕ → Option ℤ → List Event
@@ -23,12 +23,12 @@ events_of kind p None = []
 
 -- an event of a point of the net, at the number that the point has there
 abbrev pub IsEvent : PlainNet → Event → Type 0
-IsEvent net event = (event.point < points net) × (number_of event.kind net event.point ≡ Some event.number)
+IsEvent net event = (event.point < points net) × (calendar_number event.kind net event.point ≡ Some event.number)
 
 -- events of the net, and among them all those of the points below n, in any order
 pub record AreEvents (net : PlainNet) (n : ℕ) (events : List Event) : Type 0 where
   pub right : All (IsEvent net) events
-  pub whole : (kind : Kind) (p : ℕ) (x : ℤ) → p < n → number_of kind net p ≡ Some x → Contains events (record { number = x; point = p; kind = kind })
+  pub whole : (kind : Kind) (p : ℕ) (x : ℤ) → p < n → calendar_number kind net p ≡ Some x → Contains events (record { number = x; point = p; kind = kind })
 
 -- of events of one number, that of the lower kind comes after an upper one and before one that is past
 abbrev pub turn_of : Kind → ℕ
@@ -37,20 +37,20 @@ turn_of Lower = 1
 turn_of Past = 2
 
 -- what events are sorted by: the number, and then the kind
-abbrev pub place_of : Event → ℤ × ℕ
-place_of event = (event.number, turn_of event.kind)
+abbrev pub event_key : Event → ℤ × ℕ
+event_key event = (event.number, turn_of event.kind)
 
 abbrev pub place_cmp : ℤ × ℕ → ℤ × ℕ → Ordering
 place_cmp x y = ordering_then (int_cmp x.0 y.0) (nat_cmp x.1 y.1)
 
 -- the least number comes first, and of one number the kinds in their order
-abbrev pub AreInOrder : List Event → Type 0
-AreInOrder events = IsSortedByKey place_of place_cmp events
+abbrev pub AreEventsInOrder : List Event → Type 0
+AreEventsInOrder events = IsSortedByKey event_key place_cmp events
 
 -- all events of a net, in order
 pub record IsCalendar (net : PlainNet) (events : List Event) : Type 0 where
   pub complete : AreEvents net (points net) events
-  pub in_order : AreInOrder events
+  pub in_order : AreEventsInOrder events
 
 -- the least rank that points may have whose lower numbers come after an event of a point of this rank
 abbrev pub least_after : Kind → ℕ → ℕ

@@ -6,7 +6,7 @@ use Rattle.net_core.specs.Nets.{PlainNet, points}
 use Rattle.net_core.specs.Relations.{Timeline}
 use Rattle.evidence_check.specs.declared.orders.Orders.{Orders}
 use Rattle.evidence_check.specs.declared.pairs.Order.TheVariants.{Before, NoLater, Equal}
-use Rattle.evidence_check.specs.Pairs.{IsKept, IsWithin}
+use Rattle.evidence_check.specs.Pairs.{IsKept, IsPairWithin}
 
 -- a timeline keeps the orders
 pub record KeepsOrders (t : Timeline) (orders : Orders) : Type 0 where
@@ -15,22 +15,22 @@ pub record KeepsOrders (t : Timeline) (orders : Orders) : Type 0 where
   pub equals : All (IsKept Equal t) orders.equals
 
 -- all points are below n
-pub record AreWithin (n : ℕ) (orders : Orders) : Type 0 where
-  pub befores : All (IsWithin Before n) orders.befores
-  pub no_laters : All (IsWithin NoLater n) orders.no_laters
-  pub equals : All (IsWithin Equal n) orders.equals
+pub record AreOrdersWithin (n : ℕ) (orders : Orders) : Type 0 where
+  pub befores : All (IsPairWithin Before n) orders.befores
+  pub no_laters : All (IsPairWithin NoLater n) orders.no_laters
+  pub equals : All (IsPairWithin Equal n) orders.equals
 
 -- there are no more than n of each kind
-pub record AreFew (n : ℕ) (orders : Orders) : Type 0 where
+pub record AreAtMost (n : ℕ) (orders : Orders) : Type 0 where
   pub befores : length orders.befores ≤ n
   pub no_laters : length orders.no_laters ≤ n
   pub equals : length orders.equals ≤ n
 
 -- a timeline keeps the links of a net below n
-abbrev pub KeepsLinks : PlainNet → ℕ → Timeline → Type 0
-KeepsLinks net n t = (k : ℕ) → k < n → KeepsLink net t k
+abbrev pub KeepsLinksBelow : PlainNet → ℕ → Timeline → Type 0
+KeepsLinksBelow net n t = (k : ℕ) → k < n → KeepsLink net t k
 
 -- the orders of the links of a net: they are of its points, and a timeline keeps them exactly where it keeps the links
 pub record AreOrdersOf (net : PlainNet) (orders : Orders) : Type 0 where
-  pub within : AreWithin (points net) orders
-  pub same : (t : Timeline) → KeepsOrders t orders ↔ KeepsLinks net (length net.links) t
+  pub within : AreOrdersWithin (points net) orders
+  pub same : (t : Timeline) → KeepsOrders t orders ↔ KeepsLinksBelow net (length net.links) t

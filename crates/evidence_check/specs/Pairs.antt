@@ -18,10 +18,10 @@ pub record AreMoved (old new : List Pair) (k kept : ℕ) : Type 0 where
   pub to_come : drop k new ≡ drop k old
 
 -- all points of a pair are below n
-abbrev pub IsWithin : Order → ℕ → Pair → Type 0
-IsWithin Before n pair = (pair.first < n) × (pair.second < n)
-IsWithin NoLater n pair = (pair.first < n) × (pair.second < n)
-IsWithin Equal n pair = (2 * pair.first + 1 < n) × (2 * pair.second + 1 < n)
+abbrev pub IsPairWithin : Order → ℕ → Pair → Type 0
+IsPairWithin Before n pair = (pair.first < n) × (pair.second < n)
+IsPairWithin NoLater n pair = (pair.first < n) × (pair.second < n)
+IsPairWithin Equal n pair = (2 * pair.first + 1 < n) × (2 * pair.second + 1 < n)
 
 -- the pair is in this order
 abbrev pub IsKept : Order → Timeline → Pair → Type 0

@@ -31,20 +31,20 @@ walk_at walks k = slice_index_or walks k []
 abbrev pub cite_at : List ℕ → ℕ → ℕ
 cite_at cites i = slice_index cites i
 
-abbrev pub ranks_at : List (List (ℕ × ℕ)) → ℕ → List (ℕ × ℕ)
-ranks_at spares i = slice_index_or spares i []
+abbrev pub spare_ranks_at : List (List (ℕ × ℕ)) → ℕ → List (ℕ × ℕ)
+spare_ranks_at spares i = slice_index_or spares i []
 
 -- the walk of a number proves the atom of that number
 abbrev pub Proves : PlainNet → List Atom → List (List StepOf) → ℕ → Type 0
 Proves net atoms walks k = IsProof net (atom_at atoms k) (walk_at walks k)
 
 -- the cite of a number is that of a link of the net
-abbrev pub IsOfLink : PlainNet → List ℕ → ℕ → Type 0
-IsOfLink net cites i = cite_at cites i < length net.links
+abbrev pub IsCiteOfLink : PlainNet → List ℕ → ℕ → Type 0
+IsCiteOfLink net cites i = cite_at cites i < length net.links
 
 -- the timeline of a number fits with all cited links but the one of that number
 abbrev pub IsSpareAt : PlainNet → List ℕ → List (List (ℕ × ℕ)) → ℕ → Type 0
-IsSpareAt net cites spares i = FitsOthers net cites (cite_at cites i) (ranks_at spares i)
+IsSpareAt net cites spares i = FitsOthers net cites (cite_at cites i) (spare_ranks_at spares i)
 
 -- ---- why it is refused
 
@@ -77,12 +77,12 @@ abbrev pub IsBadNumber : PlainNet → ℕ → ℕ → ℕ → Type 0
 IsBadNumber net a b n = ((intervals net ≤ a) × (n ≡ a)) ⊎ ((a < intervals net) × (intervals net ≤ b) × (n ≡ b))
 
 -- the steps are joined from a point on
-abbrev pub GoFrom : PlainNet → ℕ → List StepOf → Type 0
-GoFrom net x steps = (y : ℕ) × IsJoined net EveryLink steps x y
+abbrev pub StepsGoFrom : PlainNet → ℕ → List StepOf → Type 0
+StepsGoFrom net x steps = (y : ℕ) × IsJoined net EveryLink steps x y
 
 -- The steps are no proof of an atom, for this reason and for none before it: step k is the first that does not go on; they do not end at the atom's other point; or the atom is strict, and none of them is.
 abbrev pub IsNoProof : PlainNet → Atom → List StepOf → Reason → Type 0
-IsNoProof net atom steps (Step k) = (k < length steps) × GoFrom net atom.from (take k steps) × (GoFrom net atom.from (take (k + 1) steps) → ⊥)
+IsNoProof net atom steps (Step k) = (k < length steps) × StepsGoFrom net atom.from (take k steps) × (StepsGoFrom net atom.from (take (k + 1) steps) → ⊥)
 IsNoProof net atom steps End = (y : ℕ) × IsJoined net EveryLink steps atom.from y × (y ≢ atom.to)
 IsNoProof net atom steps Weak = IsJoined net EveryLink steps atom.from atom.to × (atom.strict ≡ true) × (has_strict net steps ≡ false)
 IsNoProof net atom steps other = ⊥
@@ -104,12 +104,12 @@ abbrev pub IsRelationRefused : List ℕ → ℕ → Rel → ℕ → Refused → 
 IsRelationRefused ranks a r b refused = (refused.part ≡ 2) × (refused.reason ≡ Holds) × Relates (timeline_of ranks) a r b
 
 -- the steps are joined from some point to some point
-abbrev pub GoOn : PlainNet → List StepOf → Type 0
-GoOn net steps = (x : ℕ) × GoFrom net x steps
+abbrev pub StepsGoOn : PlainNet → List StepOf → Type 0
+StepsGoOn net steps = (x : ℕ) × StepsGoFrom net x steps
 
 -- The steps are no closed walk over exactly the cited links, for this reason and for none before it: step k is the first that does not go on; they do not end where they begin; none of them is strict; or a link is the first that is cited and not gone over, or gone over and not cited.
 abbrev pub IsNoClosedWalk : PlainNet → List ℕ → List StepOf → Reason → Type 0
-IsNoClosedWalk net cites steps (Step k) = (k < length steps) × GoOn net (take k steps) × (GoOn net (take (k + 1) steps) → ⊥)
+IsNoClosedWalk net cites steps (Step k) = (k < length steps) × StepsGoOn net (take k steps) × (StepsGoOn net (take (k + 1) steps) → ⊥)
 IsNoClosedWalk net cites steps End = (x : ℕ) × (y : ℕ) × IsJoined net EveryLink steps x y × (x ≢ y)
 IsNoClosedWalk net cites steps Weak = (x : ℕ) × IsJoined net EveryLink steps x x × (has_strict net steps ≡ false)
 IsNoClosedWalk net cites steps (Cited link) = IsClosedWalk net EveryLink steps × IsFirst (length net.links) (Agrees cites steps) (Some link)
@@ -117,7 +117,7 @@ IsNoClosedWalk net cites steps other = ⊥
 
 -- a cite that is none of a link, which is part 0
 abbrev pub IsCiteRefused : PlainNet → List ℕ → Refused → Type 0
-IsCiteRefused net cites refused = (refused.part ≡ 0) × (i : ℕ) × IsFirst (length cites) (IsOfLink net cites) (Some i) × (refused.reason ≡ Number (cite_at cites i))
+IsCiteRefused net cites refused = (refused.part ≡ 0) × (i : ℕ) × IsFirst (length cites) (IsCiteOfLink net cites) (Some i) × (refused.reason ≡ Number (cite_at cites i))
 
 -- the walk, which is part 1
 abbrev pub IsClosedWalkRefused : PlainNet → List ℕ → List StepOf → Refused → Type 0
@@ -127,7 +127,7 @@ IsClosedWalkRefused net cites walk refused = (refused.part ≡ 1) × IsNoClosedW
 abbrev pub IsSpareRefused : PlainNet → List ℕ → List (List (ℕ × ℕ)) → Refused → Type 0
 IsSpareRefused net cites spares refused =
     (i : ℕ) × IsFirst (length cites) (IsSpareAt net cites spares) (Some i) × (refused.part ≡ i + 2)
-    × IsMisfit net (Others (Contains cites) (cite_at cites i)) (ranks_of (ranks_at spares i)) refused.reason
+    × IsMisfit net (Others (Contains cites) (cite_at cites i)) (ranks_of (spare_ranks_at spares i)) refused.reason
 
 -- the first part that is refused, and the first reason there
 abbrev pub IsRefused : PlainNet → PlainEvidence → Refused → Type 0

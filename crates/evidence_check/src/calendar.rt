@@ -1,5 +1,5 @@
 //! What the calendar says of the points of a net, in an order in which one pass over it checks a timeline.
-ghost use Rattle.evidence_check.specs.Calendar.{AreEvents, AreInOrder, IsCalendar, KeepsEvents, events_of, least_after as least_rank, turn_of};
+ghost use Rattle.evidence_check.specs.Calendar.{AreEvents, AreEventsInOrder, IsCalendar, KeepsEvents, events_of, least_after as least_rank, turn_of};
 ghost use Rattle.evidence_check.specs.declared.calendar.TheConstants.{MAX_EVENTS as most_events};
 ghost use Rattle.evidence_check.specs.declared.calendar.Kind.TheVariants.{Lower};
 ghost use Rattle.net_core.specs.Nets.{points};
@@ -118,7 +118,7 @@ impl Calendar {
     /// Puts the least number first, and of one number the kinds in their order.
     fn sort(&mut self)
         ensures permutation { IsPermutation self.old self.new }
-        ensures in_order { AreInOrder self.new }
+        ensures in_order { AreEventsInOrder self.new }
     {
         sort_events(&mut self.events[..self.count]);
     }
@@ -144,7 +144,7 @@ impl Calendar {
 /// Puts the least number first, and of one number the kinds in their order.
 fn sort_events(events: &mut [Event])
     ensures permutation { IsPermutation events.old events.new }
-    ensures in_order { AreInOrder events.new }
+    ensures in_order { AreEventsInOrder events.new }
 {
     events.sort_unstable_by_key(|event| (event.number, turn(event.kind)));
 }

@@ -21,7 +21,7 @@ use crate::closed_walks::check_closed;
 use crate::demands::Demands;
 use crate::refusal::{Claim, Reason, Refused};
 use crate::spares::{Spares, spare_at};
-use crate::timeline::{Asked, fit};
+use crate::timeline::{AskedLinks, fit};
 use crate::walks::prove_all;
 use evidence_format::Evidence;
 use net_core::{Net, Ranks, Rel, Step, Walk, atoms_of, ends_at, holds};
@@ -93,7 +93,7 @@ fn check_timeline(net: &Net, demands: &Demands, ranks: &Ranks) -> Result<Claim, 
     ensures ok { OnOk result (IsSupported net.now (timeline (pairs_of ranks.now))) }
     ensures err { IfErr result (IsRefused net.now (timeline (pairs_of ranks.now))) }
 {
-    match fit(net, demands, ranks.as_slice(), Asked::All) {
+    match fit(net, demands, ranks.as_slice(), AskedLinks::All) {
         Ok(()) => Ok(Claim::Fits),
         Err(reason) => Err(Refused { part: 1, reason }),
     }
@@ -128,7 +128,7 @@ fn check_counterexample(
     ensures err { IfErr result (IsRefused net.now (counter a rel b (pairs_of ranks.now))) }
 {
     check_numbers(net, a, b)?;
-    if let Err(reason) = fit(net, demands, ranks.as_slice(), Asked::All) {
+    if let Err(reason) = fit(net, demands, ranks.as_slice(), AskedLinks::All) {
         return Err(Refused { part: 1, reason });
     }
     if holds(
@@ -223,7 +223,7 @@ fn check_spares(
             net,
             demands,
             spare_at(spares, i),
-            Asked::Others { cites, own },
+            AskedLinks::Others { cites, own },
         ) {
             return Err(Refused {
                 part: i as u32 + 2,

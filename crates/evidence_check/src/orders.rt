@@ -1,5 +1,5 @@
 //! The orders that the links of a net are, without repeats, so that no timeline is checked against one of them twice.
-ghost use Rattle.evidence_check.specs.Orders.{AreFew, AreOrdersOf, AreWithin, KeepsOrders};
+ghost use Rattle.evidence_check.specs.Orders.{AreAtMost, AreOrdersOf, AreOrdersWithin, KeepsOrders};
 ghost use Rattle.evidence_check.specs.declared.pairs.TheConstants.{MAX_PAIRS as most_pairs};
 ghost use Rattle.net_core.specs.Atoms.{IsInRange, Satisfies, atoms_in};
 ghost use Rattle.net_core.specs.Fits.{KeepsLink};
@@ -57,11 +57,11 @@ impl Orders {
     fn push_link(&mut self, net: &Net, k: u32)
         requires net { IsNet net.now }
         requires k { k < length net.now.links }
-        requires within { AreWithin (points net.now) self.old }
-        requires few { AreFew (4 * k) self.old }
+        requires within { AreOrdersWithin (points net.now) self.old }
+        requires few { AreAtMost (4 * k) self.old }
         ensures keeps { (t : Timeline) → KeepsOrders t self.new ↔ (KeepsOrders t self.old × KeepsLink net.now t k) }
-        ensures within { AreWithin (points net.now) self.new }
-        ensures few { AreFew (4 * (k + 1)) self.new }
+        ensures within { AreOrdersWithin (points net.now) self.new }
+        ensures few { AreAtMost (4 * (k + 1)) self.new }
     {
         let link = net.link(k);
         if is_equality(link.rel) {
@@ -75,10 +75,10 @@ impl Orders {
     fn push_equal(&mut self, a: u32, b: u32)
         requires a { a < max_intervals }
         requires b { b < max_intervals }
-        requires few { AreFew (most_pairs - 4) self.old }
+        requires few { AreAtMost (most_pairs - 4) self.old }
         ensures keeps { (t : Timeline) → KeepsOrders t self.new ↔ (KeepsOrders t self.old × Equals (ends_of t a) (ends_of t b)) }
-        ensures within { (n : ℕ) → AreWithin n self.old → 2 * a + 1 < n → 2 * b + 1 < n → AreWithin n self.new }
-        ensures few { (n : ℕ) → AreFew n self.old → AreFew (n + 4) self.new }
+        ensures within { (n : ℕ) → AreOrdersWithin n self.old → 2 * a + 1 < n → 2 * b + 1 < n → AreOrdersWithin n self.new }
+        ensures few { (n : ℕ) → AreAtMost n self.old → AreAtMost (n + 4) self.new }
     {
         self.equals.push(Pair {
             first: a.min(b) as u16,
@@ -89,10 +89,10 @@ impl Orders {
     /// Appends these orders.
     fn push_atoms(&mut self, atoms: Atoms)
         requires points { All (IsInRange max_points) (atoms_in atoms) }
-        requires few { AreFew (most_pairs - 4) self.old }
+        requires few { AreAtMost (most_pairs - 4) self.old }
         ensures keeps { (t : Timeline) → KeepsOrders t self.new ↔ (KeepsOrders t self.old × All (Satisfies t) (atoms_in atoms)) }
-        ensures within { (n : ℕ) → AreWithin n self.old → All (IsInRange n) (atoms_in atoms) → AreWithin n self.new }
-        ensures few { (n : ℕ) → AreFew n self.old → AreFew (n + 4) self.new }
+        ensures within { (n : ℕ) → AreOrdersWithin n self.old → All (IsInRange n) (atoms_in atoms) → AreOrdersWithin n self.new }
+        ensures few { (n : ℕ) → AreAtMost n self.old → AreAtMost (n + 4) self.new }
     {
         for k in 0..atoms.count() {
             let Some(atom) = atoms.atom(k) else {
@@ -105,10 +105,10 @@ impl Orders {
     /// Appends an order.
     fn push_atom(&mut self, atom: Atom)
         requires points { IsInRange max_points atom }
-        requires few { AreFew (most_pairs - 1) self.old }
+        requires few { AreAtMost (most_pairs - 1) self.old }
         ensures keeps { (t : Timeline) → KeepsOrders t self.new ↔ (KeepsOrders t self.old × Satisfies t atom) }
-        ensures within { (n : ℕ) → AreWithin n self.old → IsInRange n atom → AreWithin n self.new }
-        ensures few { (n : ℕ) → AreFew n self.old → AreFew (n + 1) self.new }
+        ensures within { (n : ℕ) → AreOrdersWithin n self.old → IsInRange n atom → AreOrdersWithin n self.new }
+        ensures few { (n : ℕ) → AreAtMost n self.old → AreAtMost (n + 1) self.new }
     {
         let pair = Pair {
             first: atom.from as u16,
@@ -124,7 +124,7 @@ impl Orders {
     /// Leaves each order once.
     fn drop_repeats(&mut self)
         ensures keeps { (t : Timeline) → KeepsOrders t self.new ↔ KeepsOrders t self.old }
-        ensures within { (n : ℕ) → AreWithin n self.old → AreWithin n self.new }
+        ensures within { (n : ℕ) → AreOrdersWithin n self.old → AreOrdersWithin n self.new }
     {
         self.befores.drop_repeats();
         self.no_laters.drop_repeats();
@@ -133,7 +133,7 @@ impl Orders {
 
     /// Whether these ranks keep all orders.
     pub fn are_kept(&self, ranks: &[u32]) -> bool
-        requires { AreWithin (length ranks.now) self.now }
+        requires { AreOrdersWithin (length ranks.now) self.now }
         ensures { IsTrue result ↔ KeepsOrders (timeline_of ranks.now) self.now }
     {
         self.befores.are_kept(Order::Before, ranks)

@@ -1,5 +1,5 @@
 //! Lists of pairs of numbers that take no memory.
-ghost use Rattle.evidence_check.specs.Pairs.{HaveSame, IsKept, IsWithin};
+ghost use Rattle.evidence_check.specs.Pairs.{HaveSame, IsKept, IsPairWithin};
 ghost use Rattle.evidence_check.specs.declared.pairs.TheConstants.{MAX_PAIRS as most_pairs};
 ghost use Rattle.net_core.specs.Ranks.{timeline_of};
 ghost use Rattle.std.specs.List.{All, Contains};
@@ -90,7 +90,7 @@ impl Pairs {
 
     /// Whether all pairs are in this order by these ranks.
     pub fn are_kept(&self, order: Order, ranks: &[u32]) -> bool
-        requires { All (IsWithin order (length ranks.now)) self.now }
+        requires { All (IsPairWithin order (length ranks.now)) self.now }
         ensures { IsTrue result ↔ All (IsKept order (timeline_of ranks.now)) self.now }
     {
         are_kept(

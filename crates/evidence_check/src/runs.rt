@@ -1,5 +1,5 @@
 //! Pairs in runs of one first number each, whose rank is looked up once for all of them.
-ghost use Rattle.evidence_check.specs.Pairs.{AreRuns, IsKept, IsRun, IsWithin};
+ghost use Rattle.evidence_check.specs.Pairs.{AreRuns, IsKept, IsRun, IsPairWithin};
 ghost use Rattle.net_core.specs.Ranks.{timeline_of};
 ghost use Rattle.net_core.specs.Relations.{Equals};
 ghost use Rattle.std.specs.List.{All, prefix_len};
@@ -38,7 +38,7 @@ fn run_len(first: u16, pairs: &[Pair]) -> usize
 
 /// Whether all pairs, the first of which stand in runs of these lengths, are in this order by these ranks.
 pub fn are_kept(order: Order, pairs: &[Pair], lens: &[u16], ranks: &[u32]) -> bool
-    requires within { All (IsWithin order (length ranks.now)) pairs.now }
+    requires within { All (IsPairWithin order (length ranks.now)) pairs.now }
     requires runs { AreRuns lens.now pairs.now }
     ensures { IsTrue result ↔ All (IsKept order (timeline_of ranks.now)) pairs.now }
 {
@@ -54,7 +54,7 @@ pub fn are_kept(order: Order, pairs: &[Pair], lens: &[u16], ranks: &[u32]) -> bo
 
 /// Whether the pairs of a run are in this order by these ranks. It goes over all of them without a branch on ranks.
 fn is_run_kept(order: Order, run: &[Pair], ranks: &[u32]) -> bool
-    requires within { All (IsWithin order (length ranks.now)) run.now }
+    requires within { All (IsPairWithin order (length ranks.now)) run.now }
     requires run { IsRun run.now }
     ensures { IsTrue result ↔ All (IsKept order (timeline_of ranks.now)) run.now }
 {
@@ -72,7 +72,7 @@ fn is_run_kept(order: Order, run: &[Pair], ranks: &[u32]) -> bool
 
 /// Whether each pair is in this order by these ranks. It goes over all of them without a branch on ranks.
 fn is_each_kept(order: Order, pairs: &[Pair], ranks: &[u32]) -> bool
-    requires { All (IsWithin order (length ranks.now)) pairs.now }
+    requires { All (IsPairWithin order (length ranks.now)) pairs.now }
     ensures { IsTrue result ↔ All (IsKept order (timeline_of ranks.now)) pairs.now }
 {
     let mut all = true;
@@ -85,7 +85,7 @@ fn is_each_kept(order: Order, pairs: &[Pair], ranks: &[u32]) -> bool
 /// Whether a pair is in this order by these ranks.
 #[inline]
 fn is_kept(order: Order, pair: Pair, ranks: &[u32]) -> bool
-    requires { IsWithin order (length ranks.now) pair }
+    requires { IsPairWithin order (length ranks.now) pair }
     ensures { IsTrue result ↔ IsKept order (timeline_of ranks.now) pair }
 {
     match order {

@@ -16,7 +16,7 @@ use net_core::{Net, first_broken_link, first_broken_pair, first_unordered, keeps
 
 /// The links that a timeline is to keep.
 #[derive(Clone, Copy)]
-pub enum Asked<'c> {
+pub enum AskedLinks<'c> {
     /// All links of the net.
     All,
     /// The cited links but one of them.
@@ -26,7 +26,7 @@ pub enum Asked<'c> {
 /// Ok where the ranks are a timeline that fits the net with the links that are asked, else the first reason why they are
 /// none.
 #[tactic(auto, using(net_core::proofs::RankLaws::pairs_length))]
-pub fn fit(net: &Net, demands: &Demands, ranks: &[u32], asked: Asked<'_>) -> Result<(), Reason>
+pub fn fit(net: &Net, demands: &Demands, ranks: &[u32], asked: AskedLinks<'_>) -> Result<(), Reason>
     requires demands { AreDemands net.now demands.now }
     requires even { AreEven ranks.now }
     requires few { IsNumber (length (pairs_of ranks.now)) }
@@ -52,15 +52,15 @@ pub fn fit(net: &Net, demands: &Demands, ranks: &[u32], asked: Asked<'_>) -> Res
 }
 
 /// The first of the links that are asked that does not hold.
-fn first_broken(net: &Net, demands: &Demands, ranks: &[u32], asked: Asked<'_>) -> Option<u32>
+fn first_broken(net: &Net, demands: &Demands, ranks: &[u32], asked: AskedLinks<'_>) -> Option<u32>
     requires demands { AreDemands net.now demands.now }
     requires size { length ranks.now ≡ points net.now }
     requires cites { CanBeAsked net.now asked }
     ensures { FirstBrokenLink net.now (chosen asked.entry) ranks.now result }
 {
     match asked {
-        Asked::All => first_broken_of_all(net, demands, ranks),
-        Asked::Others { cites, own } => first_broken_cite(net, ranks, cites, own),
+        AskedLinks::All => first_broken_of_all(net, demands, ranks),
+        AskedLinks::Others { cites, own } => first_broken_cite(net, ranks, cites, own),
     }
 }
 

@@ -1,5 +1,5 @@
 //! Whether walks prove the orders that a relation is.
-ghost use Rattle.evidence_check.specs.Following.{LeadsTo, StopsAt};
+ghost use Rattle.evidence_check.specs.Following.{StepsLeadTo, StepsStopAt};
 ghost use Rattle.evidence_check.specs.Refusals.{IsNoProof, IsWalkRefused};
 ghost use Rattle.evidence_check.specs.Supported.{IsProof, ProveAll};
 ghost use Rattle.evidence_format.specs.Evidence.{AreSteps};
@@ -57,7 +57,7 @@ fn prove(net: &Net, atom: Atom, steps: &[Step]) -> Result<(), Reason>
 
 /// Where steps lead, and whether one of them is strict.
 #[derive(Clone, Copy)]
-pub struct Reached {
+pub struct WalkEnd {
     pub at: u32,
     pub strict: bool,
 }
@@ -67,10 +67,10 @@ pub struct Reached {
 /// # Errors
 ///
 /// The first step that does not go on.
-pub fn follow(net: &Net, from: u32, steps: &[Step]) -> Result<Reached, u32>
+pub fn follow(net: &Net, from: u32, steps: &[Step]) -> Result<WalkEnd, u32>
     requires { IsNumber (length steps.now) }
-    ensures ok { IfOk result (LeadsTo net.now from steps.now) }
-    ensures err { IfErr result (StopsAt net.now from steps.now) }
+    ensures ok { IfOk result (StepsLeadTo net.now from steps.now) }
+    ensures err { IfErr result (StepsStopAt net.now from steps.now) }
 {
     let mut at = from;
     let mut strict = false;
@@ -83,7 +83,7 @@ pub fn follow(net: &Net, from: u32, steps: &[Step]) -> Result<Reached, u32>
         strict = either(strict, next.strict);
         k += 1;
     }
-    Ok(Reached { at, strict })
+    Ok(WalkEnd { at, strict })
 }
 
 /// The order that a step goes by, where it begins at a point.

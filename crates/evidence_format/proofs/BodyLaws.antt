@@ -7,8 +7,8 @@ use Rattle.std.proofs.lemmas.List.Elements.{All-from_recursion, recursion_from_A
 use Rattle.net_core.specs.Atoms.{atom_count}
 use Rattle.net_core.specs.declared.rels.Rel.{Rel}
 use Rattle.net_core.specs.declared.step.Step.{Step}
-use Rattle.evidence_format.specs.declared.head.Head.{Head}
-use Rattle.evidence_format.specs.declared.head.Head.TheVariants.{Timeline, Entails, Counter, Clash}
+use Rattle.evidence_format.specs.declared.head.EvidenceHead.{EvidenceHead}
+use Rattle.evidence_format.specs.declared.head.EvidenceHead.TheVariants.{Timeline, Entails, Counter, Clash}
 use Rattle.line_texts.specs.Lines.{Lines}
 use Rattle.line_texts.specs.Reading.{◌>>=◌, line_at, many_at}
 use Rattle.line_texts.specs.Grammar.{Then}
@@ -25,7 +25,7 @@ use Rattle.net_core.specs.declared.step.Step.TheVariants.{Span}
 use Rattle.line_texts.proofs.WordLaws.{two_form, pair_line}
 
 -- the kind of evidence
-abbrev head_for : PlainEvidence → Head
+abbrev head_for : PlainEvidence → EvidenceHead
 head_for (timeline ranks) = Timeline (length ranks)
 head_for (entails a r b walks) = Entails a r b
 head_for (counter a r b ranks) = Counter a r b
@@ -39,7 +39,7 @@ rest_lines (counter a r b ranks) = timeline_lines ranks
 rest_lines (clash cites walk spares) = map cite_line cites ++ (walk_lines walk ++ flat_map timeline_lines spares)
 
 -- evidence of a kind, by those lines
-abbrev pub HasRest : Head → PlainEvidence → Lines → Type 0
+abbrev pub HasRest : EvidenceHead → PlainEvidence → Lines → Type 0
 HasRest h e ls = IsWellFormed e × (head_for e ≡ h) × (ls ≡ rest_lines e)
 
 -- the body is the line that names the kind, and those that follow it
@@ -191,7 +191,7 @@ exact_clash n small =
     (exact_then (HasCites n) (HasWalkAndSpares n) (cites_at n 0) (λ cites ls. walk_at ls >>= λ walk. many_at timeline_at n walk.1 >>= λ spares. Ok (clash cites walk.0 spares.0, spares.1)) (exact_cites n small) (λ cites prefix g. exact_walk_and_spares n cites))
 
 -- what follows the line that names the kind
-exact_rest : (h : Head) → IsHead h → Exact (HasRest h) (rest_at h)
+exact_rest : (h : EvidenceHead) → IsHead h → Exact (HasRest h) (rest_at h)
 exact_rest (Timeline n) h = exact_ranks n h
 exact_rest (Entails a r b) h = exact_walks a r b h.0 h.1
 exact_rest (Counter a r b) h = exact_counterexample a r b h.0 h.1
@@ -206,7 +206,7 @@ exact_body =
     exact_same (Then (Has IsHead (λ h. head_line h ∷ [])) HasRest) (Has IsWellFormed body_lines) (λ ls. line_at head_of ls >>= λ head. rest_at head.0 head.1)
     (λ e ls t.
     let r = t.4 in
-    (r.0, t.5 ∙ ap (λ (x : Lines). x ++ t.2) t.3.1 ∙ ap (λ (x : Lines). head_line t.0 ∷ x) r.2 ∙ ap (λ (h : Head). head_line h ∷ rest_lines e) (sym r.1) ∙ sym (body_is e)))
+    (r.0, t.5 ∙ ap (λ (x : Lines). x ++ t.2) t.3.1 ∙ ap (λ (x : Lines). head_line t.0 ∷ x) r.2 ∙ ap (λ (h : EvidenceHead). head_line h ∷ rest_lines e) (sym r.1) ∙ sym (body_is e)))
     (λ e ls h. (head_for e, head_line (head_for e) ∷ [], rest_lines e, (head_is e h.0, refl), (h.0, refl, refl), h.1 ∙ body_is e))
     (exact_then (Has IsHead (λ h. head_line h ∷ [])) HasRest (line_at head_of) rest_at
     (exact_form head_line IsHead head_of (Timeline 0) (omega arith) head_form)

@@ -15,7 +15,7 @@ use Rattle.evidence_format.specs.Evidence.{AreCites, cite_line}
 use Rattle.line_texts.specs.Words.{one_of}
 use Rattle.evidence_format.specs.Forms.{cite_of}
 use Rattle.evidence_format.specs.Readers.{cites_at}
-use Rattle.line_texts.specs.Given.{StopsAt}
+use Rattle.line_texts.specs.Given.{ReadingStopsAt}
 use Rattle.line_texts.proofs.Exact.{Exact, exact_then, exact_give, exact_same}
 use Rattle.line_texts.proofs.Numbers.{some_bind}
 use Rattle.line_texts.proofs.WordLaws.{IsForm, one_form}
@@ -104,8 +104,8 @@ cites_go_on prefix n left least ls link after total k read so_far =
     sym one ∙ so_far
 
 -- no cite was read: so all of them are not
-pub cites_end : (e : Stop) (prefix : List ℕ) (n left least : ℕ) (ls : Lines) (total : Read (List ℕ)) → n ≡ suc left → StopsAt e (line_at (cite_of left least) ls)
-    → with_prefix prefix (cites_at n least ls) ≡ total → StopsAt e total
+pub cites_end : (e : Stop) (prefix : List ℕ) (n left least : ℕ) (ls : Lines) (total : Read (List ℕ)) → n ≡ suc left → ReadingStopsAt e (line_at (cite_of left least) ls)
+    → with_prefix prefix (cites_at n least ls) ≡ total → ReadingStopsAt e total
 unfolding cites_at
 cites_end stop.Memory prefix n left least ls total k read so_far = tt
 cites_end (stop.BadLine rest) prefix n left least ls total k read so_far =

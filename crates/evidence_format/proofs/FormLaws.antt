@@ -4,8 +4,8 @@ use Rattle.std.specs.Prelude.{codes, option_map}
 use Rattle.net_core.specs.declared.rels.Rel.{Rel}
 use Rattle.net_core.specs.declared.step.Step.{Step}
 use Rattle.net_core.specs.declared.step.Step.TheVariants as step
-use Rattle.evidence_format.specs.declared.head.Head.{Head}
-use Rattle.evidence_format.specs.declared.head.Head.TheVariants as head
+use Rattle.evidence_format.specs.declared.head.EvidenceHead.{EvidenceHead}
+use Rattle.evidence_format.specs.declared.head.EvidenceHead.TheVariants as head
 use Rattle.line_texts.specs.Words.{after, one_of, two_of, relation_of}
 use Rattle.evidence_format.specs.Forms.{step_of, head_of}
 use Rattle.line_texts.specs.Numbers.{IsNumber, one_number, two_numbers, relation_line}
@@ -59,25 +59,25 @@ step_form = record { again = step_again; found = step_found }
 -- ---- the kinds of evidence
 
 -- the line that names the kind
-abbrev pub head_line : Head → List ℕ
+abbrev pub head_line : EvidenceHead → List ℕ
 head_line (head.Timeline n) = one_number (codes "timeline ") n
 head_line (head.Entails a r b) = relation_line (codes "entails ") a r b
 head_line (head.Counter a r b) = relation_line (codes "counter ") a r b
 head_line (head.Clash n) = one_number (codes "clash ") n
 
 -- its numbers can stand in a text
-abbrev pub IsHead : Head → Type 0
+abbrev pub IsHead : EvidenceHead → Type 0
 IsHead (head.Timeline n) = IsNumber n
 IsHead (head.Entails a r b) = IsNumber a × IsNumber b
 IsHead (head.Counter a r b) = IsNumber a × IsNumber b
 IsHead (head.Clash n) = IsNumber n
 
 -- a line names a kind
-abbrev SaysHead : List ℕ → Head → Type 0
+abbrev SaysHead : List ℕ → EvidenceHead → Type 0
 SaysHead l h = (head_line h ≡ l) × IsHead h
 
 -- a line of which a kind is read names it
-head_found : (l : List ℕ) (h : Head) → head_of l ≡ Some h → SaysHead l h
+head_found : (l : List ℕ) (h : EvidenceHead) → head_of l ≡ Some h → SaysHead l h
 unfolding head_of
 head_found l h e =
     elim (either (option_map (λ n. head.Timeline n) (one_of (codes "timeline ") l)) _ h e) [
@@ -122,7 +122,7 @@ unfolding relation_of after
 no_counter_clash n = refl
 
 -- a kind is read of its line
-head_again : (h : Head) → IsHead h → head_of (head_line h) ≡ Some h
+head_again : (h : EvidenceHead) → IsHead h → head_of (head_line h) ≡ Some h
 unfolding head_of
 head_again (head.Timeline n) f = rw ((one_form (codes "timeline ")).again n f) refl
 head_again (head.Entails a r b) f = rw (no_timeline_entails a r b, (relation_form (codes "entails ")).again (a, r, b) f) refl

@@ -5,7 +5,7 @@ use Rattle.line_texts.specs.declared.stop.Stop.{Stop}
 use Rattle.line_texts.specs.declared.stop.Stop.TheVariants as stop
 use Rattle.line_texts.specs.Lines.{Lines, lines_of}
 use Rattle.evidence_format.specs.Evidence.{PlainEvidence, IsWellFormed}
-use Rattle.line_texts.specs.Given.{StopsAt}
+use Rattle.line_texts.specs.Given.{ReadingStopsAt}
 use Rattle.evidence_format.specs.OneByOne.{all_of}
 use Rattle.line_texts.specs.Reading.{Read, ◌>>=◌, many_at, end_at}
 use Rattle.evidence_format.specs.Readers.{body_at, opening_at, bundle_at}
@@ -19,7 +19,7 @@ unfolding bundle_at
 none_read text rest n opening = rw opening refl
 
 -- without these lines no claims are read
-pub none_begun : (e : Stop) (text : Lines) → StopsAt e (opening_at text) → StopsAt e (bundle_at text)
+pub none_begun : (e : Stop) (text : Lines) → ReadingStopsAt e (opening_at text) → ReadingStopsAt e (bundle_at text)
 unfolding bundle_at
 none_begun stop.Memory text h = tt
 none_begun (stop.BadLine rest) text h = rw h refl
@@ -41,7 +41,7 @@ one_read es e left ls after text some read so_far =
     sym one ∙ ap (λ (n : ℕ). all_of es (many_at body_at n ls)) (sym k) ∙ so_far
 
 -- no claim was read: so no claims are
-pub none_follows : (e : Stop) (es : List PlainEvidence) (left : ℕ) (ls text : Lines) → 0 < left → StopsAt e (body_at ls) → all_of es (many_at body_at left ls) ≡ bundle_at text → StopsAt e (bundle_at text)
+pub none_follows : (e : Stop) (es : List PlainEvidence) (left : ℕ) (ls text : Lines) → 0 < left → ReadingStopsAt e (body_at ls) → all_of es (many_at body_at left ls) ≡ bundle_at text → ReadingStopsAt e (bundle_at text)
 unfolding many_at
 none_follows stop.Memory es left ls text some h so_far = tt
 none_follows (stop.BadLine rest) es left ls text some h so_far =
@@ -63,7 +63,7 @@ all_read es left ls text none end so_far =
     sym so_far ∙ one
 
 -- without it, no claims are read
-pub no_end : (e : Stop) (es : List PlainEvidence) (left : ℕ) (ls text : Lines) → left ≡ 0 → StopsAt e (end_at ls) → all_of es (many_at body_at left ls) ≡ bundle_at text → StopsAt e (bundle_at text)
+pub no_end : (e : Stop) (es : List PlainEvidence) (left : ℕ) (ls text : Lines) → left ≡ 0 → ReadingStopsAt e (end_at ls) → all_of es (many_at body_at left ls) ≡ bundle_at text → ReadingStopsAt e (bundle_at text)
 unfolding many_at
 no_end stop.Memory es left ls text none h so_far = tt
 no_end (stop.BadLine rest) es left ls text none h so_far =

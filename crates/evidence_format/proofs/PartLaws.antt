@@ -7,7 +7,7 @@ use Rattle.std.proofs.lemmas.List.Elements.{All-nil, All-from_recursion, recursi
 use Rattle.net_core.specs.Atoms.{atom_count}
 use Rattle.net_core.specs.declared.step.Step.{Step}
 use Rattle.net_core.specs.declared.step.Step.TheVariants.{Span}
-use Rattle.evidence_format.specs.declared.head.Head.{Head}
+use Rattle.evidence_format.specs.declared.head.EvidenceHead.{EvidenceHead}
 use Rattle.line_texts.specs.Lines.{Lines}
 use Rattle.line_texts.specs.Grammar.{Begins}
 use Rattle.evidence_format.specs.Evidence.{PlainEvidence, timeline, entails, counter, clash, AreRanks, HasNumbers, AreSteps, AreCites, IsWellFormed, at_line, timeline_lines, step_line, walk_lines, cite_line, body_lines, first_line}
@@ -142,7 +142,7 @@ body_begins ls (inr (inr (inl h))) =
 body_begins ls (inr (inr (inr h))) =
     let c = clash_begins h.0 h.1 h.2 h.3 in
     let r = clash_is h.0 c.0 (h.1 ++ c.1) c.2 in
-    let whole = ap (λ (x : Lines). x ++ c.1) h.4 ∙ ap (λ (x : Lines). one_number (codes "clash ") h.0 ∷ x) r.2 ∙ ap (λ (k : Head). head_line k ∷ rest_lines c.0) (sym r.1) ∙ sym (body_is c.0) in
+    let whole = ap (λ (x : Lines). x ++ c.1) h.4 ∙ ap (λ (x : Lines). one_number (codes "clash ") h.0 ∷ x) r.2 ∙ ap (λ (k : EvidenceHead). head_line k ∷ rest_lines c.0) (sym r.1) ∙ sym (body_is c.0) in
     (c.0, c.1, (r.0, whole))
 
 -- both definitions of begun lines are one

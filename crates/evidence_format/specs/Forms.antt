@@ -3,8 +3,8 @@ use Rattle.std.specs.Prelude.{ℕ, ◌+◌, ◌^◌, ◌&&◌, nat_le, nat_lt, L
 use Rattle.std.specs.Option.{option_or}
 use Rattle.net_core.specs.declared.step.Step.{Step}
 use Rattle.net_core.specs.declared.step.Step.TheVariants as step
-use Rattle.evidence_format.specs.declared.head.Head.{Head}
-use Rattle.evidence_format.specs.declared.head.Head.TheVariants as head
+use Rattle.evidence_format.specs.declared.head.EvidenceHead.{EvidenceHead}
+use Rattle.evidence_format.specs.declared.head.EvidenceHead.TheVariants as head
 use Rattle.evidence_format.specs.declared.versions.Version.{Version}
 use Rattle.evidence_format.specs.declared.versions.Version.TheVariants as version
 use Rattle.evidence_format.specs.Evidence.{first_line}
@@ -25,7 +25,7 @@ cite_of left least line = do
   if nat_le least link && nat_lt (link + left) (2 ^ 32) then Some link else None
 
 -- the kind of evidence, by the line that names it
-unfoldable pub head_of : List ℕ → Option Head
+unfoldable pub head_of : List ℕ → Option EvidenceHead
 head_of line =
     option_or (option_map (λ n. head.Timeline n) (one_of (codes "timeline ") line))
     (option_or (option_map (λ x. head.Entails x.0 x.1 x.2) (relation_of (codes "entails ") line))

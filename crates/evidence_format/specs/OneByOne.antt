@@ -14,5 +14,5 @@ all_of es read = do
   Ok (es ++ more.0)
 
 -- with what is left after these claims the whole text is read
-abbrev pub HasRead : List PlainEvidence → Unread → Type 0
-HasRead es unread = all_of es (many_at body_at unread.left (lines_of unread.rest.now)) ≡ bundle_at (lines_of unread.text.now)
+abbrev pub HasReadClaims : List PlainEvidence → Unread → Type 0
+HasReadClaims es unread = all_of es (many_at body_at unread.left (lines_of unread.rest.now)) ≡ bundle_at (lines_of unread.text.now)

@@ -2,8 +2,8 @@
 use Rattle.std.specs.Prelude.{ℕ, zero, suc, ◌+◌, List, [], ◌∷◌, Result, Ok, codes}
 use Rattle.net_core.specs.Atoms.{atom_count}
 use Rattle.net_core.specs.declared.step.Step.{Step}
-use Rattle.evidence_format.specs.declared.head.Head.{Head}
-use Rattle.evidence_format.specs.declared.head.Head.TheVariants.{Timeline, Entails, Counter, Clash}
+use Rattle.evidence_format.specs.declared.head.EvidenceHead.{EvidenceHead}
+use Rattle.evidence_format.specs.declared.head.EvidenceHead.TheVariants.{Timeline, Entails, Counter, Clash}
 use Rattle.evidence_format.specs.declared.versions.Version.{Version}
 use Rattle.evidence_format.specs.declared.versions.Version.TheVariants.{One, Two}
 use Rattle.line_texts.specs.Lines.{Lines}
@@ -39,7 +39,7 @@ cites_at (suc left) least ls = do
   Ok (link.0 ∷ more.0, more.1)
 
 -- what follows the line that names the kind
-unfoldable pub rest_at : Head → Lines → Read PlainEvidence
+unfoldable pub rest_at : EvidenceHead → Lines → Read PlainEvidence
 rest_at (Timeline n) ls = do
   ranks ← ranks_at n ls
   Ok (timeline ranks.0, ranks.1)

@@ -2,7 +2,7 @@
 ghost use Rattle.evidence_format.specs.Bundles.{AreBodies, IsTextOfEither, RefusesText};
 ghost use Rattle.evidence_format.specs.Evidence.{PlainEvidence};
 ghost use Rattle.evidence_format.specs.Given.{GivesBodies};
-ghost use Rattle.line_texts.specs.Given.{Passes};
+ghost use Rattle.line_texts.specs.Given.{SkipsValues};
 ghost use Rattle.line_texts.specs.Lines.{lines_of};
 ghost use Rattle.evidence_format.specs.Readers as readers;
 ghost use Rattle.line_texts.specs.Reading.{many_at};
@@ -59,7 +59,7 @@ fn bodies_of(alloc: Global, text: &[u8]) -> Result<Bodies<'_>, Stop<'_>>
 
 /// What follows this number of bodies. Each is let go before the next one is read.
 fn pass_bodies(alloc: Global, count: u32, text: &[u8]) -> Result<&[u8], Stop<'_>>
-    ensures { Passes result (many_at readers.body_at count (lines_of text.now)) }
+    ensures { SkipsValues result (many_at readers.body_at count (lines_of text.now)) }
 {
     let mut rest = text;
     for _ in 0..count {

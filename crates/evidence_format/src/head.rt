@@ -10,7 +10,7 @@ use net_core::Rel;
 
 /// The kind of evidence, with what its line says.
 #[derive(Clone, Copy)]
-pub enum Head {
+pub enum EvidenceHead {
     /// A timeline of this number of intervals.
     Timeline { intervals: u32 },
     /// A relation between two intervals that holds in every timeline that fits.
@@ -22,7 +22,7 @@ pub enum Head {
 }
 
 /// The kind of evidence, and what follows its line.
-pub fn head_at(text: &[u8]) -> Result<(Head, &[u8]), Stop<'_>>
+pub fn head_at(text: &[u8]) -> Result<(EvidenceHead, &[u8]), Stop<'_>>
     ensures { GivesOrStops (λ x. (x.0, lines_of x.1.now)) result (line_at forms.head_of (lines_of text.now)) }
 {
     let (line, rest) = next_line(text).ok_or(Stop::BadLine(text))?;
@@ -32,18 +32,18 @@ pub fn head_at(text: &[u8]) -> Result<(Head, &[u8]), Stop<'_>>
 
 /// The kind that a line names. None comes exactly where it names none.
 #[tactic(auto, unfolding(crate::specs::Forms::head_of))]
-fn head_of(line: &[u8]) -> Option<Head>
+fn head_of(line: &[u8]) -> Option<EvidenceHead>
     ensures { result ≡ forms.head_of line.now }
 {
     if let Some(intervals) = one_of(b"timeline ", line) {
-        return Some(Head::Timeline { intervals });
+        return Some(EvidenceHead::Timeline { intervals });
     }
     if let Some((a, rel, b)) = relation_of(b"entails ", line) {
-        return Some(Head::Entails { a, rel, b });
+        return Some(EvidenceHead::Entails { a, rel, b });
     }
     if let Some((a, rel, b)) = relation_of(b"counter ", line) {
-        return Some(Head::Counter { a, rel, b });
+        return Some(EvidenceHead::Counter { a, rel, b });
     }
     let links = one_of(b"clash ", line)?;
-    Some(Head::Clash { links })
+    Some(EvidenceHead::Clash { links })
 }

@@ -9,7 +9,7 @@ ghost use Rattle.net_core.specs.Limits.{max_evidence};
 ghost use Rattle.std.specs.Prelude.{◌≤◌, ◌-◌, length, IfOk, IfErr};
 
 use crate::cites::cites_at;
-use crate::head::{Head, head_at};
+use crate::head::{EvidenceHead, head_at};
 use crate::timeline::{ranks_at, timeline_at, timelines_at};
 use crate::walks::{walk_at, walks_at};
 use crate::{Body, Evidence};
@@ -56,23 +56,27 @@ pub fn body_at<'t>(alloc: Global, text: &'t [u8]) -> Result<(Body, &'t [u8]), St
 
 /// What follows the line that names the kind.
 #[tactic(auto, unfolding(crate::specs::Readers::rest_at))]
-fn rest_at<'t>(alloc: Global, head: Head, text: &'t [u8]) -> Result<(Body, &'t [u8]), Stop<'t>>
+fn rest_at<'t>(
+    alloc: Global,
+    head: EvidenceHead,
+    text: &'t [u8],
+) -> Result<(Body, &'t [u8]), Stop<'t>>
     ensures { GivesOrStops (λ x. (plain_body x.0, lines_of x.1.now)) result (readers.rest_at head (lines_of text.now)) }
 {
     match head {
-        Head::Timeline { intervals } => {
+        EvidenceHead::Timeline { intervals } => {
             let (ranks, rest) = ranks_at(alloc, intervals, text)?;
             Ok((Body::Whole(Evidence::Timeline { ranks }), rest))
         }
-        Head::Entails { a, rel, b } => {
+        EvidenceHead::Entails { a, rel, b } => {
             let (walks, rest) = walks_at(alloc, rel.atom_count(), text)?;
             Ok((Body::Whole(Evidence::Entails { a, rel, b, walks }), rest))
         }
-        Head::Counter { a, rel, b } => {
+        EvidenceHead::Counter { a, rel, b } => {
             let (ranks, rest) = timeline_at(alloc, text)?;
             Ok((Body::Whole(Evidence::Counter { a, rel, b, ranks }), rest))
         }
-        Head::Clash { links } => {
+        EvidenceHead::Clash { links } => {
             let (cites, rest) = cites_at(alloc, links, text)?;
             let (walk, rest) = walk_at(alloc, rest)?;
             let (spares, rest) = timelines_at(alloc, links, rest)?;

@@ -1,5 +1,5 @@
 //! Reading timelines.
-ghost use Rattle.evidence_format.specs.Given.{Appends};
+ghost use Rattle.evidence_format.specs.Given.{AppendsRanks};
 ghost use Rattle.line_texts.specs.Given.{GivesOrStops};
 ghost use Rattle.line_texts.specs.Lines.{lines_of};
 ghost use Rattle.evidence_format.specs.Readers as readers;
@@ -35,7 +35,7 @@ pub fn timelines_at<'t>(
 /// Appends the ranks of a timeline, and answers what follows it.
 #[tactic(auto, unfolding(crate::specs::Readers::timeline_at))]
 fn push_timeline_at<'t>(ranks: &mut Ranks, text: &'t [u8]) -> Result<&'t [u8], Stop<'t>>
-    ensures { Appends ranks.old ranks.new result (readers.timeline_at (lines_of text.now)) }
+    ensures { AppendsRanks ranks.old ranks.new result (readers.timeline_at (lines_of text.now)) }
 {
     let (count, rest) = one_at(b"timeline ", text)?;
     push_ranks_at(ranks, count, rest)
@@ -67,7 +67,7 @@ pub fn ranks_at<'t>(
 /// Appends the ranks of this number of intervals, and answers what follows them. Nothing is reserved by the count, which comes
 /// from a stranger.
 fn push_ranks_at<'t>(ranks: &mut Ranks, count: u32, text: &'t [u8]) -> Result<&'t [u8], Stop<'t>>
-    ensures { Appends ranks.old ranks.new result (readers.ranks_at count (lines_of text.now)) }
+    ensures { AppendsRanks ranks.old ranks.new result (readers.ranks_at count (lines_of text.now)) }
 {
     let mut rest = text;
     for _ in 0..count {

@@ -1,10 +1,10 @@
 //! Claims that are read one after another.
 ghost use Rattle.evidence_format.specs.Bundles.{IsTextOfEither, RefusesText};
 ghost use Rattle.evidence_format.specs.Evidence.{IsWellFormed, PlainEvidence};
-ghost use Rattle.line_texts.specs.Given.{StopsAt};
+ghost use Rattle.line_texts.specs.Given.{ReadingStopsAt};
 ghost use Rattle.line_texts.specs.Lines.{lines_of};
 ghost use Rattle.evidence_format.specs.Readers as readers;
-ghost use Rattle.evidence_format.specs.OneByOne.{HasRead};
+ghost use Rattle.evidence_format.specs.OneByOne.{HasReadClaims};
 ghost use Rattle.evidence_format.specs.View.{plain_body};
 ghost use Rattle.net_core.specs.Limits.{max_evidence};
 ghost use Rattle.std.specs.Prelude.{◌≡◌, ◌<◌, ◌≤◌, ◌-◌, ◌++◌, [], ◌∷◌, List as ListOf, length, IfErr, IfOk, OnOk};
@@ -34,7 +34,7 @@ impl<'t> Unread<'t> {
     /// The bad line, where it comes before the first claim.
     pub fn of_text(text: &'t [u8]) -> Result<Unread<'t>, ReadEvidence>
         requires { length text.now ≤ max_evidence }
-        ensures ok { IfOk result (λ claims. HasRead [] claims) }
+        ensures ok { IfOk result (λ claims. HasReadClaims [] claims) }
         ensures text { IfOk result (λ claims. claims.text.now ≡ text.now) }
         ensures err { IfErr result (RefusesText text.now) }
     {
@@ -52,8 +52,8 @@ impl<'t> Unread<'t> {
     pub fn next_claim(&mut self, alloc: Global) -> Result<Body, ReadEvidence>
         requires limit { length self.old.text.now ≤ max_evidence }
         requires left { 0 < self.old.left }
-        requires read { (es : ListOf PlainEvidence) × HasRead es self.old }
-        ensures ok { (es : ListOf PlainEvidence) → HasRead es self.old → IfOk result (λ claim. HasRead (es ++ plain_body claim ∷ []) self.new) }
+        requires read { (es : ListOf PlainEvidence) × HasReadClaims es self.old }
+        ensures ok { (es : ListOf PlainEvidence) → HasReadClaims es self.old → IfOk result (λ claim. HasReadClaims (es ++ plain_body claim ∷ []) self.new) }
         ensures good { IfOk result (λ claim. IsWellFormed (plain_body claim)) }
         ensures left { OnOk result (self.new.left ≡ self.old.left - 1) }
         ensures err { IfErr result (RefusesText self.old.text.now) }
@@ -77,8 +77,8 @@ impl<'t> Unread<'t> {
     pub fn finish(self) -> Result<(), ReadEvidence>
         requires limit { length self.text.now ≤ max_evidence }
         requires left { self.left ≡ 0 }
-        requires read { (es : ListOf PlainEvidence) × HasRead es self }
-        ensures ok { (es : ListOf PlainEvidence) → HasRead es self.entry → OnOk result (IsTextOfEither es self.entry.text.now) }
+        requires read { (es : ListOf PlainEvidence) × HasReadClaims es self }
+        ensures ok { (es : ListOf PlainEvidence) → HasReadClaims es self.entry → OnOk result (IsTextOfEither es self.entry.text.now) }
         ensures err { IfErr result (RefusesText self.entry.text.now) }
     {
         match end_at(self.rest) {
@@ -91,7 +91,7 @@ impl<'t> Unread<'t> {
 /// Why no claims were read, where reading stops.
 pub fn stopped(text: &[u8], stop: Stop<'_>) -> ReadEvidence
     requires limit { length text.now ≤ max_evidence }
-    requires stop { StopsAt stop (readers.bundle_at (lines_of text.now)) }
+    requires stop { ReadingStopsAt stop (readers.bundle_at (lines_of text.now)) }
     ensures { RefusesText text.now result }
 {
     refusal(text, stop)

@@ -1,7 +1,7 @@
 -- A list has one first fault, or none where no element breaks a rule.
 use Rattle.std.proofs.Common.{◌≡◌, ◌≤◌, ℕ, List, [], ◌∷◌, ◌++◌, refl, sym, ap, subst, ◌∙◌, append_assoc, inl, inr, arith, All}
 use Rattle.std.proofs.lemmas.List.Elements.{All-nil, All-cons, All-append}
-use Rattle.faults.specs.First.{AreNumbered, FirstFault, NoneBreaks}
+use Rattle.faults.specs.First.{AreNumbered, FirstBrokenRule, NoneBreaks}
 use Rattle.named.proofs.Cuts.{inside, none_cut, two_cuts, last_or_before}
 
 -- ---- no element breaks a rule
@@ -24,10 +24,10 @@ none_breaks_prefix breaks xs ys none = λ before after element rule e b. none be
 
 module _ {E R : Type 0} (breaks : R → List E → E → Type 0) (number : R → ℕ) (place_of : E → ℕ) where
   -- a list in which no element breaks a rule has no fault
-  pub none_or_fault : (elements : List E) (place : ℕ) (rule : R) → NoneBreaks breaks elements → FirstFault breaks number place_of elements place rule → ⊥
+  pub none_or_fault : (elements : List E) (place : ℕ) (rule : R) → NoneBreaks breaks elements → FirstBrokenRule breaks number place_of elements place rule → ⊥
   none_or_fault elements place rule none f = none f.before f.after f.element rule f.whole f.broken
 
-  same_fault : (elements : List E) (place other : ℕ) (r s : R) (f : FirstFault breaks number place_of elements place r) (g : FirstFault breaks number place_of elements other s) → AreNumbered number
+  same_fault : (elements : List E) (place other : ℕ) (r s : R) (f : FirstBrokenRule breaks number place_of elements place r) (g : FirstBrokenRule breaks number place_of elements other s) → AreNumbered number
       → f.before ≡ g.before → f.element ≡ g.element → (place ≡ other) × (r ≡ s)
   same_fault elements place other r s f g numbered e k =
       let theirs = subst (λ (p : List E × E). breaks s p.0 p.1) (λ i. (sym e i, sym k i)) g.broken in
@@ -35,7 +35,7 @@ module _ {E R : Type 0} (breaks : R → List E → E → Type 0) (number : R →
       (f.place_is ∙ ap place_of k ∙ sym g.place_is, numbered r s (omega (arith, f.least s theirs, g.least r ours)))
 
   -- and there is at most one first fault
-  pub one_fault : AreNumbered number → (elements : List E) (place other : ℕ) (r s : R) → FirstFault breaks number place_of elements place r → FirstFault breaks number place_of elements other s → (place ≡ other) × (r ≡ s)
+  pub one_fault : AreNumbered number → (elements : List E) (place other : ℕ) (r s : R) → FirstBrokenRule breaks number place_of elements place r → FirstBrokenRule breaks number place_of elements other s → (place ≡ other) × (r ≡ s)
   one_fault numbered elements place other r s f g = elim (two_cuts f.before g.before f.after g.after f.element g.element (sym f.whole ∙ g.whole)) [
     | inl k ↦ same_fault elements place other r s f g numbered k.0 k.1
     | inr (inl k) ↦ absurd (g.none_before f.before k.0 f.element r k.1 f.broken)
@@ -43,7 +43,7 @@ module _ {E R : Type 0} (breaks : R → List E → E → Type 0) (number : R →
   ]
 
   -- the fault of one element alone
-  pub fault_of_one : (element : E) (rule : R) → breaks rule [] element → ((other : R) → breaks other [] element → number rule ≤ number other) → FirstFault breaks number place_of (element ∷ []) (place_of element) rule
+  pub fault_of_one : (element : E) (rule : R) → breaks rule [] element → ((other : R) → breaks other [] element → number rule ≤ number other) → FirstBrokenRule breaks number place_of (element ∷ []) (place_of element) rule
   fault_of_one element rule broken least = record {
     before = [];
     element = element;
@@ -69,8 +69,8 @@ module _ {E R : Type 0} (breaks : R → E → Type 0) where
   all_of_none (x ∷ xs) h = All-cons Sound x xs (λ rule b. h [] xs x rule refl b) (all_of_none xs (λ before after element rule e b. h (x ∷ before) after element rule (ap (λ (ys : List E). x ∷ ys) e) b))
 
   -- the first fault of some elements is that of more, where those before them are sound
-  pub fault_within : (number : R → ℕ) (place_of : E → ℕ) (before xs after : List E) (place : ℕ) (rule : R) → All Sound before → FirstFault (λ (r : R) (b : List E). breaks r) number place_of xs place rule
-      → FirstFault (λ (r : R) (b : List E). breaks r) number place_of (before ++ xs ++ after) place rule
+  pub fault_within : (number : R → ℕ) (place_of : E → ℕ) (before xs after : List E) (place : ℕ) (rule : R) → All Sound before → FirstBrokenRule (λ (r : R) (b : List E). breaks r) number place_of xs place rule
+      → FirstBrokenRule (λ (r : R) (b : List E). breaks r) number place_of (before ++ xs ++ after) place rule
   fault_within number place_of before xs after place rule sound f = record {
     before = before ++ f.before;
     element = f.element;

@@ -3,7 +3,7 @@ use Rattle.std.proofs.Common.{◌⊎◌, inl, inr, ℕ, ◌≤◌, List, [], ◌
 use Rattle.std.specs.List.{All, Contains}
 use Rattle.std.proofs.lemmas.Bool.{cases_lt}
 use Rattle.std.proofs.lemmas.List.Elements.{All-nil, All-cons, All-contains, All-weaker}
-use Rattle.faults.specs.First.{FirstFault, NoneBreaks}
+use Rattle.faults.specs.First.{FirstBrokenRule, NoneBreaks}
 use Rattle.faults.proofs.First.{none_breaks_nil, none_breaks_more}
 
 module _ {E R : Type 0} (breaks : R → List E → E → Type 0) (number : R → ℕ) (place_of : E → ℕ) where
@@ -52,7 +52,7 @@ module _ {E R : Type 0} (breaks : R → List E → E → Type 0) (number : R →
 
     module _ (rules : List R) (all : (rule : R) → Contains rules rule) where
       abbrev pub FirstOrNone : List E → Type 0
-      FirstOrNone elements = ((place : ℕ) × (rule : R) × FirstFault breaks number place_of elements place rule) ⊎ NoneBreaks breaks elements
+      FirstOrNone elements = ((place : ℕ) × (rule : R) × FirstBrokenRule breaks number place_of elements place rule) ⊎ NoneBreaks breaks elements
 
       first_from : (rest before : List E) → NoneBreaks breaks before → FirstOrNone (before ++ rest)
       first_from [] before none = rw (append-nil before) (inr none)

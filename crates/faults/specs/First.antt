@@ -6,7 +6,7 @@ abbrev pub NoneBreaks : {E R : Type 0} → (R → List E → E → Type 0) → L
 NoneBreaks {E} {R} breaks elements = (before after : List E) (element : E) (rule : R) → elements ≡ before ++ element ∷ after → breaks rule before element → ⊥
 
 -- At a place stands the first element that breaks a rule, and of the rules that it breaks this is the one with the least number.
-pub record FirstFault {E R : Type 0} (breaks : R → List E → E → Type 0) (number : R → ℕ) (place_of : E → ℕ) (elements : List E) (place : ℕ) (rule : R) : Type 0 where
+pub record FirstBrokenRule {E R : Type 0} (breaks : R → List E → E → Type 0) (number : R → ℕ) (place_of : E → ℕ) (elements : List E) (place : ℕ) (rule : R) : Type 0 where
   pub before : List E
   pub element : E
   pub after : List E

@@ -4,7 +4,7 @@ use Rattle.std.specs.Prelude.{decimal}
 use Rattle.std.specs.List.{prefix_len}
 use Rattle.std.specs.Char.{digit_value}
 use Rattle.std.specs.Str.Parse.{AllDigits, digits_value, digits_value_after}
-use Rattle.std.proofs.lemmas.Bool.{cases_lt, eqb-true, ltb-true, lt-ltb, and_parts}
+use Rattle.std.proofs.lemmas.Bool.{cases_lt, eqb-true, ltb-true, lt-ltb, and_parts, ne_eqb}
 use Rattle.std.proofs.lemmas.Bool.Decides.{nat_tests}
 use Rattle.std.proofs.lemmas.Fmt.{decimal_is_IsNumeral, decimal-digits_value, decimal_digit, decimal_nonempty, first_decimal}
 use Rattle.std.proofs.lemmas.List.{take_all}
@@ -145,10 +145,6 @@ zero_word stop b (c ∷ bytes) e z =
       | false ↦ let none : number (b ∷ c ∷ take k bytes) ≡ None = no_zero b (c ∷ take k bytes) (eqb-true b 48 z) (omega arith) in rw (one-add k, one-add (suc k), none) refl
     ])
 
--- bytes that differ are told apart
-false_by : (b stop : ℕ) → (b ≡ stop → ⊥) → eqb b stop ≡ false
-false_by b stop apart = elim (eqb b stop) as (λ t. eqb b stop ≡ t → eqb b stop ≡ false) [ true ↦ λ e. absurd (apart (eqb-true b stop e)) | false ↦ λ e. e ] refl
-
 -- the number up to a byte, by its first byte
 abbrev begun_to : ℕ → List ℕ → Option (ℕ × List ℕ)
 begun_to stop [] = digits_to stop 0 []
@@ -171,6 +167,6 @@ long_to_is stop (b ∷ bytes) =
 pub zero_read : (stop : ℕ) (bytes rest : List ℕ) → 1 ≤ length bytes → get_or bytes 0 0 ≡ 48 → (get_or bytes 0 0 ≡ stop → ⊥) → Some rest ≡ after_byte stop (take (length bytes - 1) (drop 1 bytes)) → Some (0, rest) ≡ long_to stop bytes
 zero_read stop [] rest some zero apart e = absurd (omega arith)
 zero_read stop (b ∷ bytes) rest some zero apart e =
-    let other : eqb b stop ≡ false = false_by b stop apart in
+    let other : eqb b stop ≡ false = ne_eqb b stop apart in
     let read : after_byte stop bytes ≡ Some rest = ap (after_byte stop) (sym (take_all (length (b ∷ bytes) - 1) bytes (omega arith))) ∙ sym e in
     sym (zero_word stop b bytes other (eq-eqb b 48 zero) ∙ ap (with_rest 0) read)

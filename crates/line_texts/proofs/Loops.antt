@@ -5,7 +5,7 @@ use Rattle.line_texts.specs.declared.stop.Stop.{Stop}
 use Rattle.line_texts.specs.declared.stop.Stop.TheVariants as stop
 use Rattle.line_texts.specs.Lines.{Lines, lines_of}
 use Rattle.line_texts.specs.Reading.{Read, ◌>>=◌, many_at}
-use Rattle.line_texts.specs.Given.{StopsAt}
+use Rattle.line_texts.specs.Given.{ReadingStopsAt}
 
 -- what was read before, and what is still read
 abbrev pub with_prefix : {A : Type 0} → List A → Read (List A) → Read (List A)
@@ -26,8 +26,8 @@ goes_on p prefix count i ls a after total lt h so_far =
     sym one ∙ so_far
 
 -- no value was read: so all of them are not
-pub ends : {A : Type 0} (p : Lines → Read A) (e : Stop) (prefix : List A) (count i : ℕ) (ls : Lines) (total : Read (List A)) → i < count → StopsAt e (p ls)
-    → with_prefix prefix (many_at p (count - i) ls) ≡ total → StopsAt e total
+pub ends : {A : Type 0} (p : Lines → Read A) (e : Stop) (prefix : List A) (count i : ℕ) (ls : Lines) (total : Read (List A)) → i < count → ReadingStopsAt e (p ls)
+    → with_prefix prefix (many_at p (count - i) ls) ≡ total → ReadingStopsAt e total
 unfolding many_at
 ends p stop.Memory prefix count i ls total lt h so_far = tt
 ends p (stop.BadLine rest) prefix count i ls total lt h so_far =

@@ -10,7 +10,7 @@ use Rattle.line_texts.specs.Lines.{Lines, is_lf, lines_of}
 use Rattle.line_texts.specs.Reading.{Read}
 use Rattle.line_texts.specs.Grammar.{Begins, Stuck}
 use Rattle.line_texts.specs.Begun.{IsBadLineBy, ReadsBy, RefusesTextBy, TellsBadLineBy, TextOrBadLineBy}
-use Rattle.line_texts.specs.Given.{IsWithin, StopsAt, refusal_of}
+use Rattle.line_texts.specs.Given.{IsStopWithin, ReadingStopsAt, refusal_of}
 use Rattle.line_texts.proofs.Exact.{Exact, all_of, all_again, all_found, all_bad, one_place}
 use Rattle.line_texts.proofs.LineLaws.{IsLine, lines_again, lines_concat, line_number}
 use Rattle.line_texts.proofs.ReaderLaws.{Has}
@@ -75,7 +75,7 @@ module _ {A : Type 0} {T : A → List ℕ → Type 0} {B : Lines → Type 0} {G 
   not_both a text rest h read = let again = is_read a text h in cc
 
   -- where reading stops, the text is refused
-  pub refuses : (text : List ℕ) (e : Stop) → StopsAt e (r (lines_of text)) → IsWithin text e × RefusesTextBy T B text (refusal_of text e)
+  pub refuses : (text : List ℕ) (e : Stop) → ReadingStopsAt e (r (lines_of text)) → IsStopWithin text e × RefusesTextBy T B text (refusal_of text e)
   refuses text stop.Memory h = (tt, tt)
   refuses text (stop.BadLine rest) h =
       let bad = is_bad text rest.now h in

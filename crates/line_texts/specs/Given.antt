@@ -9,24 +9,24 @@ use Rattle.line_texts.specs.declared.stop.Stop.TheVariants.{BadLine, Memory}
 use Rattle.line_texts.specs.Lines.{Lines, is_lf, lines_of}
 use Rattle.line_texts.specs.Reading.{Read}
 
-abbrev pub StopsAt : {Y : Type 0} → Stop → Result Y Lines → Type 0
-StopsAt Memory read = ⊤
-StopsAt (BadLine rest) read = read ≡ Err (lines_of rest.now)
+abbrev pub ReadingStopsAt : {Y : Type 0} → Stop → Result Y Lines → Type 0
+ReadingStopsAt Memory read = ⊤
+ReadingStopsAt (BadLine rest) read = read ≡ Err (lines_of rest.now)
 
 -- what a function answers, seen by a view, is what reading gives, unless out of memory
 abbrev pub GivesOrStops : {X Y : Type 0} → (X → Y) → Result X Stop → Result Y Lines → Type 0
 GivesOrStops view (Ok x) read = read ≡ Ok (view x)
-GivesOrStops view (Err e) read = StopsAt e read
+GivesOrStops view (Err e) read = ReadingStopsAt e read
 
 -- the rest of a text is what follows some values, as reading gives them, unless out of memory
-abbrev pub Passes : {A : Type 0} → Result (Bor (List ℕ)) Stop → Read (List A) → Type 0
-Passes {A} (Ok rest) read = (vs : List A) × (read ≡ Ok (vs, lines_of rest.now))
-Passes (Err e) read = StopsAt e read
+abbrev pub SkipsValues : {A : Type 0} → Result (Bor (List ℕ)) Stop → Read (List A) → Type 0
+SkipsValues {A} (Ok rest) read = (vs : List A) × (read ≡ Ok (vs, lines_of rest.now))
+SkipsValues (Err e) read = ReadingStopsAt e read
 
 -- the rest at which reading stops is no longer than the text
-abbrev pub IsWithin : List ℕ → Stop → Type 0
-IsWithin text Memory = ⊤
-IsWithin text (BadLine rest) = length rest.now ≤ length text
+abbrev pub IsStopWithin : List ℕ → Stop → Type 0
+IsStopWithin text Memory = ⊤
+IsStopWithin text (BadLine rest) = length rest.now ≤ length text
 
 -- why no value is read where reading stops: the line at which the rest begins is bad
 abbrev pub refusal_of : List ℕ → Stop → ReadEvidence

@@ -1,5 +1,5 @@
 //! Why no value was read, and at which line.
-ghost use Rattle.line_texts.specs.Given.{IsWithin, refusal_of};
+ghost use Rattle.line_texts.specs.Given.{IsStopWithin, refusal_of};
 ghost use Rattle.line_texts.specs.Lines.{is_lf};
 ghost use Rattle.net_core.specs.Limits.{max_evidence};
 ghost use Rattle.std.specs.List.{count_by};
@@ -32,7 +32,7 @@ impl Error for ReadEvidence {}
 
 /// Why no value was read of a text, where reading stops.
 pub fn refusal(text: &[u8], stop: Stop<'_>) -> ReadEvidence
-    requires within { IsWithin text.now stop }
+    requires within { IsStopWithin text.now stop }
     requires limit { length text.now ≤ max_evidence }
     ensures { result ≡ refusal_of text.now stop.entry }
 {

@@ -15,7 +15,7 @@ use Rattle.clash.specs.declared.minimal.Clash.{Clash}
 use Rattle.evidence_format.specs.Bundles.{IsClaimText}
 use Rattle.evidence_format.specs.Evidence.{AreRanks, IsWellFormed, clash}
 use Rattle.evidence_format.proofs.SmallRanks.{small_ranks}
-use Rattle.evidence_check.specs.Refusals.{cite_at, ranks_at}
+use Rattle.evidence_check.specs.Refusals.{cite_at, spare_ranks_at}
 use Rattle.evidence_check.specs.Supported.{FitsOthers, IsSupported}
 use Rattle.evidence_check.proofs.Cites.{no_more}
 use Rattle.evidence_check.proofs.Soundness.{supported_is_true}
@@ -36,9 +36,9 @@ module _ (net : PlainNet) (is : IsNet net) (found : Clash) (proved : IsProvedCla
       let few_links = is.few_links in
       let few = is.few_intervals in
       let cites = no_more found.cites (length net.links) proved.rising (λ i lt. proved.minimal.links i 0 lt) in
-      let round = proved.round.0 in (
+      let closed = proved.closed.0 in (
         (proved.rising, (λ i d lt. let below = proved.minimal.links i d lt in omega arith), omega arith),
-        (walk_numbers net found.walk round.0 round.0 is round.1.0, (let short = proved.short in omega arith)),
+        (walk_numbers net found.walk closed.0 closed.0 is closed.1.0, (let short = proved.short in omega arith)),
         All-from_get_or AreRanks (map pairs_of found.spares) [] (λ i lt.
             let within : i < length found.spares = omega (arith, lt, length-map found.spares pairs_of) in
             let spare = proved.spares.1 i (omega (arith, within, count)) in
@@ -47,17 +47,17 @@ module _ (net : PlainNet) (is : IsNet net) (found : Clash) (proved : IsProvedCla
       )
 
   -- each of its spares fits with the other links
-  spare_fits : (i : ℕ) → i < length found.cites → FitsOthers net found.cites (cite_at found.cites i) (ranks_at (map pairs_of found.spares) i)
+  spare_fits : (i : ℕ) → i < length found.cites → FitsOthers net found.cites (cite_at found.cites i) (spare_ranks_at (map pairs_of found.spares) i)
   spare_fits i lt =
       let spare = proved.spares.1 i lt in
-      let here : ranks_of (ranks_at (map pairs_of found.spares) i) ≡ spare_at i =
+      let here : ranks_of (spare_ranks_at (map pairs_of found.spares) i) ≡ spare_at i =
       ap ranks_of (get_or-map pairs_of found.spares i [] [] (omega (arith, lt, count))) ∙ ranks_again (spare_at i) (even_length (length net.bounds) (spare_at i) spare.size) in
       subst (RanksFitWith net (Others (Contains found.cites) (cite_at found.cites i))) (sym here) (spare.size, spare.least.holds)
 
   -- and its text tells it
   pub shows_clash : (text : List ℕ) → HasNoTimeline net → IsClaimText (clash found.cites found.walk (map pairs_of found.spares)) text → ShowsClash net text
   shows_clash text none is_text =
-      let supported : IsSupported net (clash found.cites found.walk (map pairs_of found.spares)) = (proved.minimal.links, proved.round, zip_from (FitsOthers net found.cites) 0 [] found.cites (map pairs_of found.spares) (length-map found.spares pairs_of ∙ count) spare_fits) in
+      let supported : IsSupported net (clash found.cites found.walk (map pairs_of found.spares)) = (proved.minimal.links, proved.closed, zip_from (FitsOthers net found.cites) 0 [] found.cites (map pairs_of found.spares) (length-map found.spares pairs_of ∙ count) spare_fits) in
       record {
         none = none;
         cites = found.cites;
@@ -69,6 +69,6 @@ module _ (net : PlainNet) (is : IsNet net) (found : Clash) (proved : IsProvedCla
           is_text,
           supported,
           supported_is_true net (clash found.cites found.walk (map pairs_of found.spares)) supported,
-          clash_size net found.cites found.walk found.spares text is proved.rising proved.minimal.links proved.round proved.short proved.spares is_text,
+          clash_size net found.cites found.walk found.spares text is proved.rising proved.minimal.links proved.closed proved.short proved.spares is_text,
         );
       }

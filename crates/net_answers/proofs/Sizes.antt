@@ -150,12 +150,12 @@ module _ (net : PlainNet) (is : IsNet net) where
 -- the text of a clash: each link that it cites has a step, so there are no more spares than steps
 pub clash_size : (net : PlainNet) (cites : List ℕ) (walk : List Step) (spares : List (List ℕ)) (text : List ℕ) → IsNet net → IsStrictlyIncreasing cites → All (λ k. k < length net.links) cites
     → IsClosedOver net cites walk → length walk ≤ 2 * points net → AreSpares net (Contains cites) cites spares → IsClaimText (clash cites walk (map pairs_of spares)) text → length text ≤ max_printed
-clash_size net cites walk spares text is rising links round short are text_is =
+clash_size net cites walk spares text is rising links closed short are text_is =
     let few = is.few_intervals in
     let cited = cites_size net is cites links in
     let spared = spares_size net is cites spares are in
-    let walked = walk_size net is walk round.0.0 round.0.0 round.0.1.0 short in
-    let fewer = few_cites cites walk rising (λ i lt. (round.1 (get_or cites i 0) (All-get_or (λ (k : ℕ). k < length net.links) cites i 0 lt links)).1 (Contains-get_or cites i 0 lt)) in
+    let walked = walk_size net is walk closed.0.0 closed.0.0 closed.0.1.0 short in
+    let fewer = few_cites cites walk rising (λ i lt. (closed.1 (get_or cites i 0) (All-get_or (λ (k : ℕ). k < length net.links) cites i 0 lt links)).1 (Contains-get_or cites i 0 lt)) in
     let line = one_number (codes "clash ") (length cites) in
     let head = one_size (codes "clash ") (length cites) (omega (arith, fewer, short, few)) in
     let after = flat_map timeline_lines (map pairs_of spares) in

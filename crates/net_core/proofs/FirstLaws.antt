@@ -1,11 +1,11 @@
 -- What is found first is the only one, and is found where it is decided of each number.
-use Rattle.std.proofs.Common.{◌≡◌, ◌⊎◌, inl, inr, ℕ, zero, suc, ◌<◌, arith, Option, Some, None, refl, sym, ap, subst, below_more}
+use Rattle.std.proofs.Common.{◌≡◌, ◌⊎◌, inl, inr, ℕ, zero, suc, ◌<◌, arith, Option, Some, None, IfNone, refl, sym, ap, subst, below_more}
 use Rattle.net_core.specs.Firsts.{IsFirst, IsFirstPair}
 
 -- ---- one at most
 
 -- two numbers of which neither is less are one
-neither_less : (i j : ℕ) → (i < j → ⊥) → (j < i → ⊥) → i ≡ j
+pub neither_less : (i j : ℕ) → (i < j → ⊥) → (j < i → ⊥) → i ≡ j
 neither_less i j h k = omega arith
 
 -- of two first numbers the other would have been found before the greater one
@@ -62,3 +62,10 @@ first_pair_or_none n Holds decided = elim (first_or_none n (λ p. IsFirst n (Hol
     | inr first ↦ inr ((row.0, first.0), (row.1.0, first.1, λ p q before less. row.1.2 p before q less))
   ]
 ]
+
+-- ---- none
+
+-- what follows where there is none
+pub none_given : {A P : Type 0} (o : Option A) → ((x : A) → o ≡ Some x → ⊥) → IfNone o P → P
+none_given None not given = given
+none_given (Some x) not given = absurd (not x refl)

@@ -106,16 +106,16 @@ joined_over net Chosen Other (step ∷ steps) x y joined over = (
 )
 
 -- the same of closed walks
-pub round_more : (net : PlainNet) (Chosen Other : ℕ → Type 0) (steps : List Step) → ((k : ℕ) → Chosen k → Other k) → IsClosedWalk net Chosen steps → IsClosedWalk net Other steps
-round_more net Chosen Other steps more round = (round.0, (joined_more net Chosen Other steps round.0 round.0 more round.1.0, round.1.1))
+pub closed_walk_more : (net : PlainNet) (Chosen Other : ℕ → Type 0) (steps : List Step) → ((k : ℕ) → Chosen k → Other k) → IsClosedWalk net Chosen steps → IsClosedWalk net Other steps
+closed_walk_more net Chosen Other steps more closed = (closed.0, (joined_more net Chosen Other steps closed.0 closed.0 more closed.1.0, closed.1.1))
 
-pub round_over : (net : PlainNet) (Chosen Other : ℕ → Type 0) (steps : List Step) → ((k : ℕ) → GoesOver steps k → Other k) → IsClosedWalk net Chosen steps → IsClosedWalk net Other steps
-round_over net Chosen Other steps over round = (round.0, (joined_over net Chosen Other steps round.0 round.0 round.1.0 over, round.1.1))
+pub closed_walk_over : (net : PlainNet) (Chosen Other : ℕ → Type 0) (steps : List Step) → ((k : ℕ) → GoesOver steps k → Other k) → IsClosedWalk net Chosen steps → IsClosedWalk net Other steps
+closed_walk_over net Chosen Other steps over closed = (closed.0, (joined_over net Chosen Other steps closed.0 closed.0 closed.1.0 over, closed.1.1))
 
 -- where a walk is closed no timeline fits
-pub round_clashes : (net : PlainNet) (Chosen : ℕ → Type 0) (steps : List Step) → IsClosedWalk net Chosen steps → Clashes net Chosen
-round_clashes net Chosen steps round t fits =
-    let less : t round.0 < t round.0 = walk_kept net Chosen t steps round.0 round.0 true fits round.1 in omega arith
+pub closed_walk_clashes : (net : PlainNet) (Chosen : ℕ → Type 0) (steps : List Step) → IsClosedWalk net Chosen steps → Clashes net Chosen
+closed_walk_clashes net Chosen steps closed t fits =
+    let less : t closed.0 < t closed.0 = walk_kept net Chosen t steps closed.0 closed.0 true fits closed.1 in omega arith
 
 -- each of joined steps goes by an order
 pub step_goes : (net : PlainNet) (Chosen : ℕ → Type 0) (steps : List Step) (x y : ℕ) (step : Step) → IsJoined net Chosen steps x y → Contains steps step → (a : Atom) × GoesBy net Chosen step a
@@ -176,17 +176,17 @@ or_swap true false e = refl
 or_swap false b e = rw e refl
 
 -- a closed walk can begin with each of its steps
-pub round_from : (net : PlainNet) (Chosen : ℕ → Type 0) (steps : List Step) (step : Step) (a : Atom) → IsClosedWalk net Chosen steps → Contains steps step → atom_of net step ≡ Some a
+pub closed_walk_from : (net : PlainNet) (Chosen : ℕ → Type 0) (steps : List Step) (step : Step) (a : Atom) → IsClosedWalk net Chosen steps → Contains steps step → atom_of net step ≡ Some a
     → HasWalk net Chosen a.from a.from true
-round_from net Chosen steps step a round has is =
+closed_walk_from net Chosen steps step a closed has is =
     let cut = contains_split steps step has in
     let before = cut.0 in
     let more = step ∷ cut.1 in
-    let x = round.0 in
-    let parts = joined_split net Chosen before more x x (subst (λ (all : List Step). IsJoined net Chosen all x x) cut.2 round.1.0) in
+    let x = closed.0 in
+    let parts = joined_split net Chosen before more x x (subst (λ (all : List Step). IsJoined net Chosen all x x) cut.2 closed.1.0) in
     let same : parts.2.0 ≡ a = let e = parts.2.1.0 in cc in
     let here : parts.0 ≡ a.from = sym parts.2.2 ∙ ap (λ (b : Atom). b.from) same in
-    let strict = subst (λ (all : List Step). has_strict net all ≡ true) cut.2 (round.1.1 refl) in
+    let strict = subst (λ (all : List Step). has_strict net all ≡ true) cut.2 (closed.1.1 refl) in
     let by = λ (s : Step). is_strict_order (atom_of net s) in (
       more ++ before,
       (

@@ -10,10 +10,10 @@ use Rattle.net_core.specs.Nets.{PlainNet, lower, points, upper}
 use Rattle.net_core.specs.Relations.{Timeline}
 use Rattle.net_core.specs.declared.atom.Atom.{Atom}
 use Rattle.order_closure.specs.Tables.{SatisfiesAll}
-use Rattle.walks.specs.Dates.{AreAscending, AreDates, AreDescending, AreFrom, IsDate}
+use Rattle.walks.specs.Dates.{AreAscending, AreDates, AreDescending, AreDatesFrom, IsDateOfPoint}
 use Rattle.walks.specs.declared.dates.Date.{Date}
 use Rattle.walks.proofs.DateLaws.{ascending, descending, no_date}
-use Rattle.net_orders.specs.Dates.{Extends, FollowsDate, FollowsAll, IsFixed, PutsBefore, PutsFixedBefore, PutsLastBefore}
+use Rattle.net_orders.specs.Dates.{ExtendsOrders, FollowsDate, FollowsAll, IsFixedDate, PutsBefore, PutsFixedBefore, PutsLastBefore}
 use Rattle.net_orders.specs.Steps.{KeepsDates}
 use Rattle.net_orders.proofs.DateOrders.{dates_said}
 use Rattle.net_orders.proofs.Steps.{Below, all_below}
@@ -44,7 +44,7 @@ all_through first mid lowers t same one all =
     ]) lowers all
 
 -- All points with lower numbers follow a point, where those before place k of the dates from its number on do, and so the rest.
-all_from : (upper : Date) (lowers later : List Date) (k : ℕ) (t : Timeline) → AreFrom upper.number lowers later → k ≤ length later
+all_from : (upper : Date) (lowers later : List Date) (k : ℕ) (t : Timeline) → AreDatesFrom upper.number lowers later → k ≤ length later
     → (Below (λ i. FollowsDate upper (get_or later i no_date)) k t → (i : ℕ) → k ≤ i → i < length later → FollowsDate upper (get_or later i no_date) t)
     → Below (λ i. FollowsDate upper (get_or later i no_date)) k t ↔ FollowsAll lowers upper t
 all_from upper lowers later k t are le rest = (
@@ -62,12 +62,12 @@ all_from upper lowers later k t are le rest = (
 )
 
 -- that is so with all dates from its number on
-pub all_later : (upper : Date) (lowers later : List Date) (t : Timeline) → AreFrom upper.number lowers later
+pub all_later : (upper : Date) (lowers later : List Date) (t : Timeline) → AreDatesFrom upper.number lowers later
     → Below (λ i. FollowsDate upper (get_or later i no_date)) (length later) t ↔ FollowsAll lowers upper t
 all_later upper lowers later t are = all_from upper lowers later (length later) t are (omega arith) (λ below i ge lt. absurd (omega arith))
 
 -- and with those up to one that all points with lower numbers follow
-pub up_to_fixed : (upper : Date) (lowers later : List Date) (k : ℕ) (t : Timeline) → AreFrom upper.number lowers later → AreAscending later
+pub up_to_fixed : (upper : Date) (lowers later : List Date) (k : ℕ) (t : Timeline) → AreDatesFrom upper.number lowers later → AreAscending later
     → k < length later → upper.number <ℤ (get_or later k no_date).number → FollowsAll lowers (get_or later k no_date) t
     → Below (λ i. FollowsDate upper (get_or later i no_date)) (k + 1) t ↔ FollowsAll lowers upper t
 up_to_fixed upper lowers later k t are sorted lt less fixed = all_from upper lowers later (k + 1) t are (omega arith) (λ below i ge li.
@@ -77,16 +77,16 @@ up_to_fixed upper lowers later k t are sorted lt less fixed = all_from upper low
     (below k (omega arith)) (All-contains (λ (l : Date). FollowsDate mid l t) lowers last fixed ((are last).0 (Contains-get_or later i no_date li)).0))
 
 -- the dates from a number on are of points of the net
-pub later_within : (net : PlainNet) (lowers later : List Date) (number : ℤ) (k : ℕ) → AreDates (lower net) (points net) lowers → AreFrom number lowers later
+pub later_within : (net : PlainNet) (lowers later : List Date) (number : ℤ) (k : ℕ) → AreDates (lower net) (points net) lowers → AreDatesFrom number lowers later
     → k < length later → Contains lowers (get_or later k no_date) × ((get_or later k no_date).point < points net)
 later_within net lowers later number k low are lt =
     let date = get_or later k no_date in
     let stands = ((are date).0 (Contains-get_or later k no_date lt)).0 in
-    (stands, (All-contains (IsDate (lower net) (points net)) lowers date low.right stands).0)
+    (stands, (All-contains (IsDateOfPoint (lower net) (points net)) lowers date low.right stands).0)
 
 -- orders that say one thing more
 pub extends_more : (n : ℕ) (IsTrue : ℕ → Timeline → Type 0) (k : ℕ) (start now next : List Atom)
-    → Extends n (Below IsTrue k) start now → Extends n (IsTrue k) now next → Extends n (Below IsTrue (k + 1)) start next
+    → ExtendsOrders n (Below IsTrue k) start now → ExtendsOrders n (IsTrue k) now next → ExtendsOrders n (Below IsTrue (k + 1)) start next
 extends_more n IsTrue k start now next so_far this = record {
   in_range = this.in_range;
   exact = λ t. (
@@ -96,7 +96,7 @@ extends_more n IsTrue k start now next so_far this = record {
 }
 
 -- the same of something that is true where it is
-pub extends_same : (n : ℕ) (P Q : Timeline → Type 0) (old new : List Atom) → ((t : Timeline) → SatisfiesAll old t → P t ↔ Q t) → Extends n P old new → Extends n Q old new
+pub extends_same : (n : ℕ) (P Q : Timeline → Type 0) (old new : List Atom) → ((t : Timeline) → SatisfiesAll old t → P t ↔ Q t) → ExtendsOrders n P old new → ExtendsOrders n Q old new
 extends_same n P Q old new same h = record {
   in_range = h.in_range;
   exact = λ t. (
@@ -107,7 +107,7 @@ extends_same n P Q old new same h = record {
 
 -- where the order to the last fixed point with the same number is pushed, all points with lower numbers follow
 pub same_as_last : (n : ℕ) (upper fixed : Date) (lowers : List Date) (old new : List Atom) → fixed.number ≡ upper.number → Contains lowers fixed → PutsBefore lowers old fixed
-    → Extends n (FollowsDate upper fixed) old new → Extends n (FollowsAll lowers upper) old new
+    → ExtendsOrders n (FollowsDate upper fixed) old new → ExtendsOrders n (FollowsAll lowers upper) old new
 same_as_last n upper fixed lowers old new same stands puts h = extends_same n (FollowsDate upper fixed) (FollowsAll lowers upper) old new (λ t all. (
   λ one. all_through upper fixed lowers t (sym same) one (puts t all),
   λ every. All-contains (λ (l : Date). FollowsDate upper l t) lowers fixed every stands,
@@ -122,7 +122,7 @@ module _ (net : PlainNet) (uppers lowers : List Date) (up : AreDates (upper net)
   -- what the orders of the first dates say of each fixed point with a greater number
   pub greater_said : AreDescending uppers → k < length uppers → PutsFixedBefore net lowers orders (get_or uppers k no_date).number
   greater_said sorted lt date stands fixed less t all =
-      let is = All-contains (IsDate (lower net) (points net)) lowers date low.right stands in
+      let is = All-contains (IsDateOfPoint (lower net) (points net)) lowers date low.right stands in
       let at = up.whole date.point date.number is.0 fixed.1 in
       let here : get_or uppers at.0 no_date ≡ date = get_or_default uppers at.0 no_date date at.1 ∙ at.2 in
       elim (cases_lt at.0 k) [
@@ -131,7 +131,7 @@ module _ (net : PlainNet) (uppers lowers : List Date) (up : AreDates (upper net)
       ]
 
   -- with orders that say so of one date more
-  module _ (next : List Atom) (more : Extends (points net) (FollowsAll lowers (get_or uppers k no_date)) orders next) where
+  module _ (next : List Atom) (more : ExtendsOrders (points net) (FollowsAll lowers (get_or uppers k no_date)) orders next) where
     -- all points with lower numbers follow each date so far
     pub said_more : (t : Timeline) → SatisfiesAll next t ↔ Below (λ j. FollowsAll lowers (get_or uppers j no_date)) (k + 1) t
     said_more t = (
@@ -140,10 +140,10 @@ module _ (net : PlainNet) (uppers lowers : List Date) (up : AreDates (upper net)
     )
 
     -- that date may be the last fixed point
-    pub last_said : k < length uppers → IsFixed net (get_or uppers k no_date) → PutsLastBefore lowers next (Some (get_or uppers k no_date))
+    pub last_said : k < length uppers → IsFixedDate net (get_or uppers k no_date) → PutsLastBefore lowers next (Some (get_or uppers k no_date))
     last_said lt fixed =
         let date = get_or uppers k no_date in
-        let is = All-get_or (IsDate (upper net) (points net)) uppers k no_date lt up.right in
+        let is = All-get_or (IsDateOfPoint (upper net) (points net)) uppers k no_date lt up.right in
         (low.whole date.point date.number is.0 fixed.0, λ t all. ((more.exact t).0 all).1)
 
     -- the last fixed point may be the one that it was

@@ -4,7 +4,7 @@ use Rattle.std.proofs.lemmas.List.Elements.{All-contains, All-weaker}
 use Rattle.net_core.specs.Fits.{FollowsNumbers}
 use Rattle.net_core.specs.Nets.{PlainNet, lower, points, upper}
 use Rattle.net_core.specs.Relations.{Timeline}
-use Rattle.walks.specs.Dates.{AreDates, IsDate}
+use Rattle.walks.specs.Dates.{AreDates, IsDateOfPoint}
 use Rattle.walks.specs.declared.dates.Date.{Date}
 use Rattle.net_orders.specs.Dates.{AllFollow, FollowsDate, FollowsAll}
 use Rattle.net_orders.specs.Steps.{KeepsDates}
@@ -24,8 +24,8 @@ dates_said net uppers lowers up low t = (
       let second : Date = record { number = y; point = q } in
       All-contains (λ (d : Date). FollowsDate first d t) lowers second
       (All-contains (λ (d : Date). FollowsAll lowers d t) uppers first all (up.whole p x lp is_x)) (low.whole q y lq is_y)),
-  λ keeps. All-weaker (IsDate (upper net) (points net)) (λ (d : Date). FollowsAll lowers d t) (λ first one.
-      All-weaker (IsDate (lower net) (points net)) (λ (d : Date). FollowsDate first d t) (λ second two.
+  λ keeps. All-weaker (IsDateOfPoint (upper net) (points net)) (λ (d : Date). FollowsAll lowers d t) (λ first one.
+      All-weaker (IsDateOfPoint (lower net) (points net)) (λ (d : Date). FollowsDate first d t) (λ second two.
       subst (λ (l : Option ℤ). FollowsNumbers (Some first.number) l (t first.point) (t second.point)) two.1
       (subst (λ (u : Option ℤ). FollowsNumbers u (lower net second.point) (t first.point) (t second.point)) one.1 (keeps first.point second.point one.0 two.0)))
       lowers low.right) uppers up.right,

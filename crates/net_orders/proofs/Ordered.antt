@@ -11,7 +11,7 @@ use Rattle.net_core.specs.Relations.{Timeline}
 use Rattle.net_core.specs.declared.atom.Atom.{Atom}
 use Rattle.order_closure.specs.Tables.{AreInRange, SatisfiesAll}
 use Rattle.net_orders.specs.Steps.{KeepsDates}
-use Rattle.net_orders.specs.Orders.{AllAreTrueBut, AreBelow, IsTrueBut, Appends, is_link}
+use Rattle.net_orders.specs.Orders.{AllAreTrueBut, AreOrdersBelow, IsTrueBut, AppendsOrders, is_this_link}
 use Rattle.net_orders.specs.declared.orders.Order.{Order}
 use Rattle.net_orders.proofs.LinkAtoms.{no_atom}
 use Rattle.net_orders.proofs.Steps.{Below, all_below}
@@ -31,43 +31,43 @@ all_parts P xs ys = (
 )
 
 -- one order is put last
-pub appends_one : (n : ℕ) (order : Order) (old new : List Order) → IsInRange n order.atom → new ≡ old ++ order ∷ [] → Appends n (λ but t. IsTrueBut but order t) old new
-appends_one n order old new in_range is = subst (Appends n (λ but t. IsTrueBut but order t) old) (sym is) record {
+pub appends_one : (n : ℕ) (order : Order) (old new : List Order) → IsInRange n order.atom → new ≡ old ++ order ∷ [] → AppendsOrders n (λ omitted t. IsTrueBut omitted order t) old new
+appends_one n order old new in_range is = subst (AppendsOrders n (λ omitted t. IsTrueBut omitted order t) old) (sym is) record {
   in_range = λ below. All-push (λ (o : Order). IsInRange n o.atom) old order below in_range;
-  exact = λ but t. (
-    λ all. let both = (all_parts (λ o. IsTrueBut but o t) old (order ∷ [])).0 all in (both.0, both.1 0 order (omega arith)),
-    λ both. All-push (λ o. IsTrueBut but o t) old order both.0 both.1,
+  exact = λ omitted t. (
+    λ all. let both = (all_parts (λ o. IsTrueBut omitted o t) old (order ∷ [])).0 all in (both.0, both.1 0 order (omega arith)),
+    λ both. All-push (λ o. IsTrueBut omitted o t) old order both.0 both.1,
   );
 }
 
 -- nothing is put last
-pub appends_nothing : (n : ℕ) (Says : ℕ → Timeline → Type 0) (old : List Order) → ((but : ℕ) (t : Timeline) → Says but t) → Appends n Says old old
-appends_nothing n Says old says = record { in_range = λ below. below; exact = λ but t. (λ all. (all, says but t), λ both. both.0) }
+pub appends_nothing : (n : ℕ) (Says : ℕ → Timeline → Type 0) (old : List Order) → ((omitted : ℕ) (t : Timeline) → Says omitted t) → AppendsOrders n Says old old
+appends_nothing n Says old says = record { in_range = λ below. below; exact = λ omitted t. (λ all. (all, says omitted t), λ both. both.0) }
 
-pub appends_none : (n : ℕ) (Each : ℕ → ℕ → Timeline → Type 0) (old : List Order) → Appends n (λ but t. Below (λ j u. Each j but u) 0 t) old old
-appends_none n Each old = appends_nothing n (λ but t. Below (λ j u. Each j but u) 0 t) old (λ but t j lt. absurd (omega arith))
+pub appends_none : (n : ℕ) (Each : ℕ → ℕ → Timeline → Type 0) (old : List Order) → AppendsOrders n (λ omitted t. Below (λ j u. Each j omitted u) 0 t) old old
+appends_none n Each old = appends_nothing n (λ omitted t. Below (λ j u. Each j omitted u) 0 t) old (λ omitted t j lt. absurd (omega arith))
 
 -- one thing after others
 pub appends_more : (n : ℕ) (Each : ℕ → ℕ → Timeline → Type 0) (k : ℕ) (start now next : List Order)
-    → Appends n (λ but t. Below (λ j u. Each j but u) k t) start now → Appends n (Each k) now next → Appends n (λ but t. Below (λ j u. Each j but u) (k + 1) t) start next
+    → AppendsOrders n (λ omitted t. Below (λ j u. Each j omitted u) k t) start now → AppendsOrders n (Each k) now next → AppendsOrders n (λ omitted t. Below (λ j u. Each j omitted u) (k + 1) t) start next
 appends_more n Each k start now next so_far this = record {
   in_range = λ below. this.in_range (so_far.in_range below);
-  exact = λ but t. (
+  exact = λ omitted t. (
     λ all.
-        let one = (this.exact but t).0 all in
-        let rest = (so_far.exact but t).0 one.0 in
-        (rest.0, below_more (λ j. Each j but t) k rest.1 one.1),
-    λ both. (this.exact but t).1 ((so_far.exact but t).1 (both.0, λ j lt. both.1 j (omega arith)), both.1 k (omega arith)),
+        let one = (this.exact omitted t).0 all in
+        let rest = (so_far.exact omitted t).0 one.0 in
+        (rest.0, below_more (λ j. Each j omitted t) k rest.1 one.1),
+    λ both. (this.exact omitted t).1 ((so_far.exact omitted t).1 (both.0, λ j lt. both.1 j (omega arith)), both.1 k (omega arith)),
   );
 }
 
 -- the same of something that is true where it is
-pub appends_same : (n : ℕ) (P Q : ℕ → Timeline → Type 0) (old new : List Order) → ((but : ℕ) (t : Timeline) → P but t ↔ Q but t) → Appends n P old new → Appends n Q old new
+pub appends_same : (n : ℕ) (P Q : ℕ → Timeline → Type 0) (old new : List Order) → ((omitted : ℕ) (t : Timeline) → P omitted t ↔ Q omitted t) → AppendsOrders n P old new → AppendsOrders n Q old new
 appends_same n P Q old new same appends = record {
   in_range = appends.in_range;
-  exact = λ but t. (
-    λ all. let both = (appends.exact but t).0 all in (both.0, (same but t).0 both.1),
-    λ both. (appends.exact but t).1 (both.0, (same but t).1 both.1),
+  exact = λ omitted t. (
+    λ all. let both = (appends.exact omitted t).0 all in (both.0, (same omitted t).0 both.1),
+    λ both. (appends.exact omitted t).1 (both.0, (same omitted t).1 both.1),
   );
 }
 
@@ -76,25 +76,25 @@ abbrev pub order_at : List Atom → ℕ → ℕ → Order
 order_at atoms link k = record { atom = get_or atoms k no_atom; link = Some link }
 
 -- a link is not the one that is left out where the test says so
-other_link : (link but : ℕ) → (is_link but (Some link) ≡ false) ↔ (link ≢ but)
-other_link link but = grind (arith, nat_tests)
+other_link : (link omitted : ℕ) → (is_this_link omitted (Some link) ≡ false) ↔ (link ≢ omitted)
+other_link link omitted = grind (arith, nat_tests)
 
 -- all orders of a link are true unless it is left out, exactly where its atoms are unless it is left out
-pub link_orders : (atoms : List Atom) (link but : ℕ) (t : Timeline)
-    → Below (λ k u. IsTrueBut but (order_at atoms link k) u) (length atoms) t ↔ (link ≢ but → SatisfiesAll atoms t)
-link_orders atoms link but t =
+pub link_orders : (atoms : List Atom) (link omitted : ℕ) (t : Timeline)
+    → Below (λ k u. IsTrueBut omitted (order_at atoms link k) u) (length atoms) t ↔ (link ≢ omitted → SatisfiesAll atoms t)
+link_orders atoms link omitted t =
     let each = all_below (λ (a : Atom) (u : Timeline). Satisfies u a) atoms no_atom t in
-    let test = other_link link but in (
+    let test = other_link link omitted in (
       λ below other. each.0 (λ k lt. below k lt (test.1 other)),
       λ holds k lt is. each.1 (holds (test.0 is)) k lt,
     )
 
 -- orders that are appended to an empty list are all of them
-pub orders_appended : (n : ℕ) (Says : ℕ → Timeline → Type 0) (orders : List Order) → Appends n Says [] orders
-    → (AreBelow n orders) × ((but : ℕ) (t : Timeline) → AllAreTrueBut but orders t ↔ Says but t)
+pub orders_appended : (n : ℕ) (Says : ℕ → Timeline → Type 0) (orders : List Order) → AppendsOrders n Says [] orders
+    → (AreOrdersBelow n orders) × ((omitted : ℕ) (t : Timeline) → AllAreTrueBut omitted orders t ↔ Says omitted t)
 orders_appended n Says orders appends = (
   appends.in_range (λ k d lt. absurd (omega arith)),
-  λ but t. (λ all. ((appends.exact but t).0 all).1, λ says. (appends.exact but t).1 (λ k d lt. absurd (omega arith), says)),
+  λ omitted t. (λ all. ((appends.exact omitted t).0 all).1, λ says. (appends.exact omitted t).1 (λ k d lt. absurd (omega arith), says)),
 )
 
 -- the first n intervals start before they end

@@ -5,7 +5,7 @@ use Rattle.std.proofs.lemmas.Grind.{same_number_lists}
 use Rattle.std.proofs.lemmas.List.{get_or-take, length-take-le}
 use Rattle.net_core.specs.Relations.{Timeline}
 use Rattle.net_core.specs.Ranks.{timeline_of}
-use Rattle.net_orders.specs.Raising.{AreLow, Rises, RisesUntil}
+use Rattle.net_orders.specs.Raising.{AreLow, RanksRise, RisesUntil}
 use Rattle.net_orders.proofs.Steps.{Below}
 
 -- ranks between two that are the same are these
@@ -17,7 +17,7 @@ squeezed a b c size up more same = same_number_lists b a size (λ k lt.
 
 -- ranks rise by one thing, and then by another
 pub rises_then : (First Second Both : Timeline → Type 0) (a b c : List ℕ) → ((t : Timeline) → Both t → First t) → ((t : Timeline) → Both t → Second t)
-    → Rises First a b → Rises Second b c → Rises Both a c
+    → RanksRise First a b → RanksRise Second b c → RanksRise Both a c
 rises_then First Second Both a b c first second one two = record {
   size = two.size ∙ one.size;
   higher = λ p. omega (arith, one.higher p, two.higher p);
@@ -26,7 +26,7 @@ rises_then First Second Both a b c first second one two = record {
 }
 
 -- ranks that rise by a part of something rise by it
-pub rises_part : (Part Whole : Timeline → Type 0) (old new : List ℕ) → ((t : Timeline) → Whole t → Part t) → Rises Part old new → Rises Whole old new
+pub rises_part : (Part Whole : Timeline → Type 0) (old new : List ℕ) → ((t : Timeline) → Whole t → Part t) → RanksRise Part old new → RanksRise Whole old new
 rises_part Part Whole old new part rises = record { size = rises.size; higher = rises.higher; under = λ t holds. rises.under t (part t holds); within = rises.within }
 
 -- the same, as far as they must

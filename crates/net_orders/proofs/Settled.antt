@@ -15,17 +15,17 @@ use Rattle.net_orders.proofs.Ordered.{all_parts}
 use Rattle.net_orders.proofs.Rising.{until_then}
 
 -- all orders are true exactly where the first ones are and the others
-pub cut_orders : (place but : ℕ) (orders : List Order) (t : Timeline) → AllAreTrueBut but orders t ↔ (AllAreTrueBut but (take place orders) t × AllAreTrueBut but (drop place orders) t)
-cut_orders place but orders t =
-    subst (λ (xs : List Order). AllAreTrueBut but xs t ↔ (AllAreTrueBut but (take place orders) t × AllAreTrueBut but (drop place orders) t)) (take-append-drop place orders)
-    (all_parts (λ (o : Order). IsTrueBut but o t) (take place orders) (drop place orders))
+pub cut_orders : (place omitted : ℕ) (orders : List Order) (t : Timeline) → AllAreTrueBut omitted orders t ↔ (AllAreTrueBut omitted (take place orders) t × AllAreTrueBut omitted (drop place orders) t)
+cut_orders place omitted orders t =
+    subst (λ (xs : List Order). AllAreTrueBut omitted xs t ↔ (AllAreTrueBut omitted (take place orders) t × AllAreTrueBut omitted (drop place orders) t)) (take-append-drop place orders)
+    (all_parts (λ (o : Order). IsTrueBut omitted o t) (take place orders) (drop place orders))
 
 -- ranks rose by the one part of orders, by the other, and by those that are fixed
-pub rose : (but : ℕ) (orders one other : List Order) (fixed : List Atom) (a b c d : List ℕ) → ((t : Timeline) → AllAreTrueBut but orders t ↔ (AllAreTrueBut but one t × AllAreTrueBut but other t))
-    → RisesUntil (AllAreTrueBut but one) a b → RisesUntil (AllAreTrueBut but other) b c → RisesUntil (SatisfiesAll fixed) c d → RisesUntil (FitsBut orders fixed but) a d
-rose but orders one other fixed a b c d parts first second third =
-    until_then (AllAreTrueBut but orders) (SatisfiesAll fixed) (FitsBut orders fixed but) a c d (λ t. (λ all. (all.held, all.kept), λ both. record { held = both.0; kept = both.1 }))
-    (until_then (AllAreTrueBut but one) (AllAreTrueBut but other) (AllAreTrueBut but orders) a b c parts first second) third
+pub rose : (omitted : ℕ) (orders one other : List Order) (fixed : List Atom) (a b c d : List ℕ) → ((t : Timeline) → AllAreTrueBut omitted orders t ↔ (AllAreTrueBut omitted one t × AllAreTrueBut omitted other t))
+    → RisesUntil (AllAreTrueBut omitted one) a b → RisesUntil (AllAreTrueBut omitted other) b c → RisesUntil (SatisfiesAll fixed) c d → RisesUntil (FitsBut orders fixed omitted) a d
+rose omitted orders one other fixed a b c d parts first second third =
+    until_then (AllAreTrueBut omitted orders) (SatisfiesAll fixed) (FitsBut orders fixed omitted) a c d (λ t. (λ all. (all.held, all.kept), λ both. record { held = both.0; kept = both.1 }))
+    (until_then (AllAreTrueBut omitted one) (AllAreTrueBut omitted other) (AllAreTrueBut omitted orders) a b c parts first second) third
 
 -- where all ranks are below the highest that is given, so is what is read past them
 pub low_from_all : (ranks : List ℕ) → All (λ (rank : ℕ). rank < max_points) ranks → AreLow ranks

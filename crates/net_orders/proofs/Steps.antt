@@ -7,7 +7,7 @@ use Rattle.net_core.specs.Relations.{Timeline}
 use Rattle.net_core.specs.declared.atom.Atom.{Atom}
 use Rattle.order_closure.specs.Tables.{Table}
 use Rattle.order_closure.specs.declared.table.WouldClash.{WouldClash}
-use Rattle.net_orders.specs.Steps.{Adds, AddsOrClashes, AddsPart}
+use Rattle.net_orders.specs.Steps.{AddsToTable, AddsOrClashes, AddsPart}
 
 -- something is true of all numbers below k
 abbrev pub Below : (ℕ → Timeline → Type 0) → ℕ → Timeline → Type 0
@@ -15,7 +15,7 @@ Below IsTrue k t = (j : ℕ) → j < k → IsTrue j t
 
 -- one thing more
 pub adds_more : (IsTrue : ℕ → Timeline → Type 0) (k : ℕ) (start now next : Table)
-    → Adds (Below IsTrue k) start now → Adds (IsTrue k) now next → Adds (Below IsTrue (k + 1)) start next
+    → AddsToTable (Below IsTrue k) start now → AddsToTable (IsTrue k) now next → AddsToTable (Below IsTrue (k + 1)) start next
 adds_more IsTrue k start now next so_far this = (
   this.0 ∙ so_far.0,
   λ t. (
@@ -26,7 +26,7 @@ adds_more IsTrue k start now next so_far this = (
 
 -- one thing more clashes, and so do all
 pub clashes_more : (IsTrue : ℕ → Timeline → Type 0) (k n : ℕ) (start now next last : Table) (fault : WouldClash) → k < n
-    → Adds (Below IsTrue k) start now → AddsOrClashes (IsTrue k) now next (Err fault) → AddsOrClashes (Below IsTrue n) start last (Err fault)
+    → AddsToTable (Below IsTrue k) start now → AddsOrClashes (IsTrue k) now next (Err fault) → AddsOrClashes (Below IsTrue n) start last (Err fault)
 clashes_more IsTrue k n start now next last fault lt so_far none =
     λ t kept all. none t ((so_far.1 t).1 (kept, λ j less. all j (omega arith))) (all k lt)
 
@@ -51,7 +51,7 @@ all_below IsTrue xs default t = (
 )
 
 -- a part of something more is added
-pub part_more : (IsTrue One : Timeline → Type 0) (start now next : Table) → ((t : Timeline) → IsTrue t → One t) → AddsPart IsTrue start now → Adds One now next → AddsPart IsTrue start next
+pub part_more : (IsTrue One : Timeline → Type 0) (start now next : Table) → ((t : Timeline) → IsTrue t → One t) → AddsPart IsTrue start now → AddsToTable One now next → AddsPart IsTrue start next
 part_more IsTrue One start now next part so_far this = (
   this.0 ∙ so_far.0,
   λ t. (

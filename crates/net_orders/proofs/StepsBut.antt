@@ -15,15 +15,15 @@ abbrev pub no_step : Step
 no_step = Link 0 0
 
 -- what a step over a link is over holds where the link does, unless it is left out
-pub over_link : (net : PlainNet) (but k : ℕ) (step : Step) → Some k ≡ link_of step → k < length net.links → (t : Timeline) → (k ≢ but → KeepsLink net t k) ↔ HoldsBut net but step t
-over_link net but k (Link j i) e within t =
+pub over_link : (net : PlainNet) (omitted k : ℕ) (step : Step) → Some k ≡ link_of step → k < length net.links → (t : Timeline) → (k ≢ omitted → KeepsLink net t k) ↔ HoldsBut net omitted step t
+over_link net omitted k (Link j i) e within t =
     let same : k ≡ j = cc in
-    subst (λ (n : ℕ). (k ≢ but → KeepsLink net t k) ↔ HoldsBut net but (Link n i) t) same (λ holds. λ other lt. holds other, λ holds. λ other. holds other within)
-over_link net but k (Span i) e within t = absurd cc
-over_link net but k (Calendar p q) e within t = absurd cc
+    subst (λ (n : ℕ). (k ≢ omitted → KeepsLink net t k) ↔ HoldsBut net omitted (Link n i) t) same (λ holds. λ other lt. holds other, λ holds. λ other. holds other within)
+over_link net omitted k (Span i) e within t = absurd cc
+over_link net omitted k (Calendar p q) e within t = absurd cc
 
 -- what another step is over holds where its order is true
-pub over_order : (net : PlainNet) (but : ℕ) (step : Step) (a : Atom) → None ≡ link_of step → Some a ≡ atom_of net step → (t : Timeline) → Satisfies t a ↔ HoldsBut net but step t
-over_order net but (Link j i) a none is t = absurd cc
-over_order net but (Span i) a none is t = (λ holds. λ b e. subst (Satisfies t) (let same : a ≡ b = cc in same) holds, λ holds. holds a (sym is))
-over_order net but (Calendar p q) a none is t = (λ holds. λ b e. subst (Satisfies t) (let same : a ≡ b = cc in same) holds, λ holds. holds a (sym is))
+pub over_order : (net : PlainNet) (omitted : ℕ) (step : Step) (a : Atom) → None ≡ link_of step → Some a ≡ atom_of net step → (t : Timeline) → Satisfies t a ↔ HoldsBut net omitted step t
+over_order net omitted (Link j i) a none is t = absurd cc
+over_order net omitted (Span i) a none is t = (λ holds. λ b e. subst (Satisfies t) (let same : a ≡ b = cc in same) holds, λ holds. holds a (sym is))
+over_order net omitted (Calendar p q) a none is t = (λ holds. λ b e. subst (Satisfies t) (let same : a ≡ b = cc in same) holds, λ holds. holds a (sym is))

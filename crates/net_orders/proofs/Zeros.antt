@@ -5,7 +5,7 @@ use Rattle.std.proofs.lemmas.List.{get_or-replicate, get_or_past, length-replica
 use Rattle.net_core.specs.Least.{IsLeast}
 use Rattle.net_core.specs.Ranks.{timeline_of}
 use Rattle.net_core.specs.Relations.{Timeline}
-use Rattle.net_orders.specs.Raising.{AreUnder, AreWithin, Rises}
+use Rattle.net_orders.specs.Raising.{AreUnder, AreRanksWithin, RanksRise}
 
 module _ (n : ℕ) (zeros : List ℕ) (are : zeros ≡ replicate n 0) where
   -- there is a zero for each point
@@ -20,14 +20,14 @@ module _ (n : ℕ) (zeros : List ℕ) (are : zeros ≡ replicate n 0) where
   ]
 
   -- none is above the highest rank, or above a rank of a timeline
-  pub zeros_within : AreWithin zeros
+  pub zeros_within : AreRanksWithin zeros
   zeros_within p = omega (arith, zero_at p)
 
   pub zeros_under : (t : Timeline) → AreUnder zeros t
   zeros_under t p lt = omega (arith, zero_at p)
 
   -- zeros that rise until something is true of them are the least ranks of which it is
-  pub least_from_zeros : (IsTrue : Timeline → Type 0) (ranks : List ℕ) → Rises IsTrue zeros ranks → IsTrue (timeline_of ranks) → (length ranks ≡ n) × IsLeast n IsTrue (timeline_of ranks)
+  pub least_from_zeros : (IsTrue : Timeline → Type 0) (ranks : List ℕ) → RanksRise IsTrue zeros ranks → IsTrue (timeline_of ranks) → (length ranks ≡ n) × IsLeast n IsTrue (timeline_of ranks)
   least_from_zeros IsTrue ranks rises holds =
       let size = rises.size ∙ zeros_size in (
         size,

@@ -22,11 +22,11 @@ abbrev pub AllFollow : List Date → List Date → Timeline → Type 0
 AllFollow uppers lowers t = All (λ (upper : Date). FollowsAll lowers upper t) uppers
 
 -- the calendar puts the point at this number: neither below it nor above it
-abbrev pub IsFixed : PlainNet → Date → Type 0
-IsFixed net date = (lower net date.point ≡ Some date.number) × (upper net date.point ≡ Some date.number)
+abbrev pub IsFixedDate : PlainNet → Date → Type 0
+IsFixedDate net date = (lower net date.point ≡ Some date.number) × (upper net date.point ≡ Some date.number)
 
 -- Orders of points below n, which say what some orders say and that something is true.
-pub record Extends (n : ℕ) (IsTrue : Timeline → Type 0) (old new : List Atom) : Type 0 where
+pub record ExtendsOrders (n : ℕ) (IsTrue : Timeline → Type 0) (old new : List Atom) : Type 0 where
   pub in_range : AreInRange n new
   pub exact : (t : Timeline) → SatisfiesAll new t ↔ (SatisfiesAll old t × IsTrue t)
 
@@ -36,7 +36,7 @@ PutsBefore lowers orders date = (t : Timeline) → SatisfiesAll orders t → Fol
 
 -- that is so for each fixed point with a number above this one
 abbrev pub PutsFixedBefore : PlainNet → List Date → List Atom → ℤ → Type 0
-PutsFixedBefore net lowers orders number = (date : Date) → Contains lowers date → IsFixed net date → number <ℤ date.number → PutsBefore lowers orders date
+PutsFixedBefore net lowers orders number = (date : Date) → Contains lowers date → IsFixedDate net date → number <ℤ date.number → PutsBefore lowers orders date
 
 -- that is so for the last fixed point, if there is one: it has one of these lower numbers
 abbrev pub PutsLastBefore : List Date → List Atom → Option Date → Type 0

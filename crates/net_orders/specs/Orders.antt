@@ -15,40 +15,40 @@ use Rattle.net_orders.specs.declared.orders.Order.{Order}
 
 -- what a step is over holds: the whole link, unless it is the one that is left out, or the order of the step
 abbrev pub HoldsBut : PlainNet → ℕ → Step → Timeline → Type 0
-HoldsBut net but (Link k i) t = k ≢ but → k < length net.links → KeepsLink net t k
-HoldsBut net but step t = (a : Atom) → atom_of net step ≡ Some a → Satisfies t a
+HoldsBut net omitted (Link k i) t = k ≢ omitted → k < length net.links → KeepsLink net t k
+HoldsBut net omitted step t = (a : Atom) → atom_of net step ≡ Some a → Satisfies t a
 
 abbrev pub AllHoldBut : PlainNet → ℕ → List Step → Timeline → Type 0
-AllHoldBut net but steps t = All (λ step. HoldsBut net but step t) steps
+AllHoldBut net omitted steps t = All (λ step. HoldsBut net omitted step t) steps
 
 -- whether an order is of a link
-abbrev pub is_link : ℕ → Option ℕ → Bool
-is_link link (Some own) = own == link
-is_link link None = false
+abbrev pub is_this_link : ℕ → Option ℕ → Bool
+is_this_link link (Some own) = own == link
+is_this_link link None = false
 
 abbrev pub is_of : ℕ → Order → Bool
-is_of link order = is_link link order.link
+is_of link order = is_this_link link order.link
 
 -- an order is true, unless it is of the link that is left out
 abbrev pub IsTrueBut : ℕ → Order → Timeline → Type 0
-IsTrueBut but order t = is_of but order ≡ false → Satisfies t order.atom
+IsTrueBut omitted order t = is_of omitted order ≡ false → Satisfies t order.atom
 
 abbrev pub AllAreTrueBut : ℕ → List Order → Timeline → Type 0
-AllAreTrueBut but orders t = All (λ order. IsTrueBut but order t) orders
+AllAreTrueBut omitted orders t = All (λ order. IsTrueBut omitted order t) orders
 
 -- the points of the orders are below n
-abbrev pub AreBelow : ℕ → List Order → Type 0
-AreBelow n orders = All (λ (order : Order). IsInRange n order.atom) orders
+abbrev pub AreOrdersBelow : ℕ → List Order → Type 0
+AreOrdersBelow n orders = All (λ (order : Order). IsInRange n order.atom) orders
 
 -- orders of points below n were put last; whatever link is left out, they say this
-pub record Appends (n : ℕ) (Says : ℕ → Timeline → Type 0) (old new : List Order) : Type 0 where
-  pub in_range : AreBelow n old → AreBelow n new
-  pub exact : (but : ℕ) (t : Timeline) → AllAreTrueBut but new t ↔ (AllAreTrueBut but old t × Says but t)
+pub record AppendsOrders (n : ℕ) (Says : ℕ → Timeline → Type 0) (old new : List Order) : Type 0 where
+  pub in_range : AreOrdersBelow n old → AreOrdersBelow n new
+  pub exact : (omitted : ℕ) (t : Timeline) → AllAreTrueBut omitted new t ↔ (AllAreTrueBut omitted old t × Says omitted t)
 
 -- whatever link is left out, the orders say what the steps are over
 pub record AreStepOrders (net : PlainNet) (steps : List Step) (orders : List Order) : Type 0 where
-  pub in_range : AreBelow (points net) orders
-  pub exact : (but : ℕ) (t : Timeline) → AllAreTrueBut but orders t ↔ AllHoldBut net but steps t
+  pub in_range : AreOrdersBelow (points net) orders
+  pub exact : (omitted : ℕ) (t : Timeline) → AllAreTrueBut omitted orders t ↔ AllHoldBut net omitted steps t
 
 -- the orders say what holds without any link: each interval starts before it ends, and all points are in the order of the calendar
 pub record AreFixed (net : PlainNet) (fixed : List Atom) : Type 0 where
@@ -56,6 +56,6 @@ pub record AreFixed (net : PlainNet) (fixed : List Atom) : Type 0 where
   pub exact : (t : Timeline) → SatisfiesAll fixed t ↔ (KeepsSpans net t × KeepsDates net t)
 
 -- all orders are true, but for those of one link
-pub record FitsBut (orders : List Order) (fixed : List Atom) (but : ℕ) (t : Timeline) : Type 0 where
-  pub held : AllAreTrueBut but orders t
+pub record FitsBut (orders : List Order) (fixed : List Atom) (omitted : ℕ) (t : Timeline) : Type 0 where
+  pub held : AllAreTrueBut omitted orders t
   pub kept : SatisfiesAll fixed t

@@ -9,21 +9,21 @@ abbrev pub AreUnder : List ℕ → Timeline → Type 0
 AreUnder ranks t = (p : ℕ) → p < length ranks → slice_index ranks p ≤ t p
 
 -- no rank is above the highest that is given, which is as many as there can be points
-abbrev pub AreWithin : List ℕ → Type 0
-AreWithin ranks = (p : ℕ) → slice_index ranks p ≤ max_points
+abbrev pub AreRanksWithin : List ℕ → Type 0
+AreRanksWithin ranks = (p : ℕ) → slice_index ranks p ≤ max_points
 
 -- each rank is below the highest
 abbrev pub AreLow : List ℕ → Type 0
 AreLow ranks = (p : ℕ) → slice_index ranks p < max_points
 
 -- Ranks rose, but not past any timeline of which something is true, nor past the highest.
-pub record Rises (IsTrue : Timeline → Type 0) (old new : List ℕ) : Type 0 where
+pub record RanksRise (IsTrue : Timeline → Type 0) (old new : List ℕ) : Type 0 where
   pub size : length new ≡ length old
   pub higher : (p : ℕ) → slice_index old p ≤ slice_index new p
   pub under : (t : Timeline) → IsTrue t → AreUnder old t → AreUnder new t
-  pub within : AreWithin old → AreWithin new
+  pub within : AreRanksWithin old → AreRanksWithin new
 
 -- Ranks rose as far as they must: where none did, and all are low, it is true of them.
 pub record RisesUntil (IsTrue : Timeline → Type 0) (old new : List ℕ) : Type 0 where
-  pub rises : Rises IsTrue old new
+  pub rises : RanksRise IsTrue old new
   pub settled : new ≡ old → AreLow old → IsTrue (timeline_of old)

@@ -19,8 +19,8 @@ abbrev pub KeepsDates : PlainNet → Timeline → Type 0
 KeepsDates net t = (p q : ℕ) → p < points net → q < points net → KeepsCalendar net t p q
 
 -- the table has as many points as before, and its timelines are those that kept it and of which something is true
-abbrev pub Adds : (Timeline → Type 0) → Table → Table → Type 0
-Adds IsTrue old new = (new.points ≡ old.points) × ((t : Timeline) → Keeps new t ↔ (Keeps old t × IsTrue t))
+abbrev pub AddsToTable : (Timeline → Type 0) → Table → Table → Type 0
+AddsToTable IsTrue old new = (new.points ≡ old.points) × ((t : Timeline) → Keeps new t ↔ (Keeps old t × IsTrue t))
 
 -- something is true of no timeline that keeps the table
 abbrev pub Excludes : (Timeline → Type 0) → Table → Type 0
@@ -28,7 +28,7 @@ Excludes IsTrue old = (t : Timeline) → Keeps old t → IsTrue t → ⊥
 
 -- it was added, or it would clash
 abbrev pub AddsOrClashes : (Timeline → Type 0) → Table → Table → Result Unit WouldClash → Type 0
-AddsOrClashes IsTrue old new (Ok done) = Adds IsTrue old new
+AddsOrClashes IsTrue old new (Ok done) = AddsToTable IsTrue old new
 AddsOrClashes IsTrue old new (Err fault) = Excludes IsTrue old
 
 -- the table has as many points as before; its timelines kept it before, and those of which something is true still do

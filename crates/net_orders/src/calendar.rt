@@ -1,5 +1,5 @@
 //! The orders of the calendar.
-ghost use Rattle.net_orders.specs.Dates.{Extends, FollowsAll, FollowsDate, IsFixed, IsNextUpper, PutsLastBefore};
+ghost use Rattle.net_orders.specs.Dates.{ExtendsOrders, FollowsAll, FollowsDate, IsFixedDate, IsNextUpper, PutsLastBefore};
 ghost use Rattle.net_orders.specs.Steps.{KeepsDates};
 ghost use Rattle.net_core.specs.Nets.{points};
 ghost use Rattle.net_core.specs.Relations.{Timeline};
@@ -44,7 +44,7 @@ fn push_orders(
 ) -> Result<(), Memory>
     requires next { IsNextUpper net.now lowers.now orders.old.items upper }
     requires last { PutsLastBefore lowers.now orders.old.items last }
-    ensures { OnOk result (Extends (points net.now) (FollowsAll lowers.now upper) orders.old.items orders.new.items) }
+    ensures { OnOk result (ExtendsOrders (points net.now) (FollowsAll lowers.now upper) orders.old.items orders.new.items) }
 {
     match last {
         Some(fixed) if fixed.number == upper.number => push_order(upper, fixed, orders),
@@ -61,7 +61,7 @@ fn push_orders_from(
     orders: &mut Vec<Atom>,
 ) -> Result<(), Memory>
     requires { IsNextUpper net.now lowers.now orders.old.items upper }
-    ensures { OnOk result (Extends (points net.now) (FollowsAll lowers.now upper) orders.old.items orders.new.items) }
+    ensures { OnOk result (ExtendsOrders (points net.now) (FollowsAll lowers.now upper) orders.old.items orders.new.items) }
 {
     let later = dates_from(lowers, upper.number);
     for lower in later {
@@ -77,7 +77,7 @@ fn push_orders_from(
 /// are not the same.
 fn push_order(upper: Date, lower: Date, orders: &mut Vec<Atom>) -> Result<(), Memory>
     ensures { OnOk result ((n : ℕ) → AreInRange n orders.old.items → upper.point < n → lower.point < n
-        → Extends n (FollowsDate upper lower) orders.old.items orders.new.items) }
+        → ExtendsOrders n (FollowsDate upper lower) orders.old.items orders.new.items) }
 {
     if upper == lower {
         return Ok(());
@@ -94,7 +94,7 @@ fn push_order(upper: Date, lower: Date, orders: &mut Vec<Atom>) -> Result<(), Me
 /// Whether a point has this number on both sides.
 fn is_fixed(net: &Net, date: Date) -> bool
     requires { date.point < points net.now }
-    ensures { IsTrue result ↔ IsFixed net.now date }
+    ensures { IsTrue result ↔ IsFixedDate net.now date }
 {
     net.lower(date.point) == Some(date.number) && net.upper(date.point) == Some(date.number)
 }

@@ -1,5 +1,5 @@
 //! The least timeline that fits a net, by raising ranks over its orders.
-ghost use Rattle.net_orders.specs.Raising.{AreWithin, Rises};
+ghost use Rattle.net_orders.specs.Raising.{AreRanksWithin, RanksRise};
 ghost use Rattle.net_core.specs.Atoms.{IsInRange, Satisfies};
 ghost use Rattle.net_core.specs.Least.{AreLeastRanks};
 ghost use Rattle.net_core.specs.Ranks.{timeline_of};
@@ -41,8 +41,8 @@ pub fn least_timeline(alloc: Global, net: &Net) -> Result<Option<Ranks>, Memory>
 /// Raises ranks until all orders hold, in at most this number of turns. Whether they do.
 pub fn raise_in_turns(ranks: &mut [u32], orders: &[Atom], sequence: &[usize], turns: u32) -> bool
     requires in_range { AreInRange (length ranks.old) orders.now }
-    requires within { AreWithin ranks.old }
-    ensures rises { Rises (SatisfiesAll orders.now) ranks.old ranks.new }
+    requires within { AreRanksWithin ranks.old }
+    ensures rises { RanksRise (SatisfiesAll orders.now) ranks.old ranks.new }
     ensures fits { IsTrue result → SatisfiesAll orders.now (timeline_of ranks.new) }
 {
     'turns: for _ in 0..turns {
@@ -58,8 +58,8 @@ pub fn raise_in_turns(ranks: &mut [u32], orders: &[Atom], sequence: &[usize], tu
 /// that leave it.
 fn raise_in_sequence(ranks: &mut [u32], orders: &[Atom], sequence: &[usize])
     requires in_range { AreInRange (length ranks.old) orders.now }
-    requires within { AreWithin ranks.old }
-    ensures { Rises (SatisfiesAll orders.now) ranks.old ranks.new }
+    requires within { AreRanksWithin ranks.old }
+    ensures { RanksRise (SatisfiesAll orders.now) ranks.old ranks.new }
 {
     let mut rest = sequence;
     while let [before @ .., number] = rest {
@@ -71,8 +71,8 @@ fn raise_in_sequence(ranks: &mut [u32], orders: &[Atom], sequence: &[usize])
 /// Raises ranks by the order of this number, if there is one.
 fn raise_by(ranks: &mut [u32], orders: &[Atom], number: usize)
     requires in_range { AreInRange (length ranks.old) orders.now }
-    requires within { AreWithin ranks.old }
-    ensures { Rises (SatisfiesAll orders.now) ranks.old ranks.new }
+    requires within { AreRanksWithin ranks.old }
+    ensures { RanksRise (SatisfiesAll orders.now) ranks.old ranks.new }
 {
     if let Some(order) = orders.get(number) {
         raise(ranks, *order);

@@ -3,21 +3,21 @@
 #![tactic(auto)]
 
 mod calendar;
+mod components;
 mod insert;
 mod least;
 mod links;
 mod orders;
 mod raising;
-mod rings;
 mod sequence;
 mod settling;
 mod unsettled;
 
+pub use components::has_strict_cycle;
 pub use insert::{add_in_sequence, add_orders};
 pub use least::least_timeline;
 pub use links::{FirstClash, add_links, atoms_of_link, nth_order};
 pub use orders::{Order, all_orders, fixed_orders, orders_of};
-pub use rings::has_strict_cycle;
 pub use sequence::sequence_of;
 pub use settling::settle;
 pub use unsettled::first_unsettled;

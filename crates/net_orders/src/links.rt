@@ -1,5 +1,5 @@
 //! The orders of intervals and of links, and adding those of links.
-ghost use Rattle.net_orders.specs.Steps.{Adds, AddsOrClashes, IsFirstExcluded, KeepsLinks};
+ghost use Rattle.net_orders.specs.Steps.{AddsToTable, AddsOrClashes, IsFirstExcluded, KeepsLinks};
 ghost use Rattle.net_core.specs.Atoms as spec;
 ghost use Rattle.net_core.specs.Atoms.{atoms_in, before};
 ghost use Rattle.net_core.specs.Nets.{link_at, points};
@@ -42,7 +42,7 @@ impl Error for FirstClash {}
 /// Adds that each link holds.
 pub fn add_links(table: &mut Closed, net: &Net) -> Result<(), FirstClash>
     requires { table.old.points ≡ points net.now }
-    ensures ok { OnOk result (Adds (KeepsLinks net.now) table.old table.new) }
+    ensures ok { OnOk result (AddsToTable (KeepsLinks net.now) table.old table.new) }
     ensures err { IfErr result (λ first. IsFirstExcluded net.now table.old first.link) }
 {
     for link in 0..net.links() {

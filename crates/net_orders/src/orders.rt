@@ -1,6 +1,6 @@
 //! The orders of points that the steps of a walk are over.
 ghost use Rattle.net_orders.specs.Orders as spec;
-ghost use Rattle.net_orders.specs.Orders.{AreFixed, AreStepOrders, HoldsBut, Appends};
+ghost use Rattle.net_orders.specs.Orders.{AreFixed, AreStepOrders, HoldsBut, AppendsOrders};
 ghost use Rattle.net_core.specs.Atoms.{atoms_in};
 ghost use Rattle.net_core.specs.Fits.{Fits, KeepsLink};
 ghost use Rattle.net_core.specs.Nets.{points};
@@ -50,7 +50,7 @@ pub fn orders_of(alloc: Global, net: &Net, steps: &[Step]) -> Result<List<Order>
 
 /// Appends the orders that a step is over.
 fn push_step(orders: &mut List<Order>, net: &Net, step: &Step) -> Result<(), Memory>
-    ensures { OnOk result (Appends (points net.now) (λ but t. HoldsBut net.now but step.now t) orders.old orders.new) }
+    ensures { OnOk result (AppendsOrders (points net.now) (λ omitted t. HoldsBut net.now omitted step.now t) orders.old orders.new) }
 {
     if let Some(link) = step.link() {
         if link < net.links() {
@@ -65,7 +65,7 @@ fn push_step(orders: &mut List<Order>, net: &Net, step: &Step) -> Result<(), Mem
 /// Appends the orders of a link.
 fn push_link(orders: &mut List<Order>, net: &Net, link: u32) -> Result<(), Memory>
     requires { link < length net.now.links }
-    ensures { OnOk result (Appends (points net.now) (λ but t. link ≢ but → KeepsLink net.now t link) orders.old orders.new) }
+    ensures { OnOk result (AppendsOrders (points net.now) (λ omitted t. link ≢ omitted → KeepsLink net.now t link) orders.old orders.new) }
 {
     let atoms = atoms_of_link(net, link);
     for number in 0..atoms.count() {

@@ -1,5 +1,5 @@
 //! A sequence of orders in which few rows of a table change.
-ghost use Rattle.net_orders.specs.Sequence.{AreLeaving, IsVisit};
+ghost use Rattle.net_orders.specs.Sequence.{AreLeavingLists, IsVisit};
 ghost use Rattle.order_closure.specs.Tables.{AreInRange};
 ghost use Rattle.std.specs.List.{All};
 ghost use Rattle.std.specs.Prelude.{IfOk, OnOk, length, ◌<◌, ◌≡◌};
@@ -46,7 +46,7 @@ impl Leaving {
     /// Out of memory.
     pub fn new(alloc: Global, points: usize, orders: &[Atom]) -> Result<Leaving, Memory>
         requires { AreInRange points orders.now }
-        ensures leaving { IfOk result AreLeaving }
+        ensures leaving { IfOk result AreLeavingLists }
         ensures points { IfOk result (λ leaving. length leaving.last.items ≡ points) }
         ensures orders { IfOk result (λ leaving. length leaving.before.items ≡ length orders.now) }
     {
@@ -74,7 +74,7 @@ fn enter(
     seen: &mut [bool],
     path: &mut Vec<Visit>,
 ) -> Result<(), Memory>
-    requires leaving { AreLeaving leaving.now }
+    requires leaving { AreLeavingLists leaving.now }
     requires point { point < length leaving.now.last.items }
     requires seen { length seen.old ≡ length leaving.now.last.items }
     requires path { All (IsVisit leaving.now) path.old.items }
@@ -98,7 +98,7 @@ fn descend(
     path: &mut Vec<Visit>,
     sequence: &mut Vec<usize>,
 ) -> Result<(), Memory>
-    requires leaving { AreLeaving leaving.now }
+    requires leaving { AreLeavingLists leaving.now }
     requires orders { length leaving.now.before.items ≡ length orders.now }
     requires in_range { AreInRange (length leaving.now.last.items) orders.now }
     requires seen { length seen.old ≡ length leaving.now.last.items }
@@ -129,7 +129,7 @@ fn follow(
     seen: &mut [bool],
     path: &mut Vec<Visit>,
 ) -> Result<(), Memory>
-    requires leaving { AreLeaving leaving.now }
+    requires leaving { AreLeavingLists leaving.now }
     requires orders { length leaving.now.before.items ≡ length orders.now }
     requires in_range { AreInRange (length leaving.now.last.items) orders.now }
     requires point { point < length leaving.now.last.items }
@@ -145,7 +145,7 @@ fn follow(
 
 /// Appends the orders that leave a point.
 fn push_leaving(leaving: &Leaving, point: usize, sequence: &mut Vec<usize>) -> Result<(), Memory>
-    requires leaving { AreLeaving leaving.now }
+    requires leaving { AreLeavingLists leaving.now }
     requires point { point < length leaving.now.last.items }
     requires sequence { All (λ k. k < length leaving.now.before.items) sequence.old.items }
     ensures { OnOk result (All (λ k. k < length leaving.now.before.items) sequence.new.items) }

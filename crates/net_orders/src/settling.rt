@@ -1,7 +1,7 @@
 //! The least ranks with which all orders hold but those of one link.
 ghost use Rattle.net_orders.specs.Orders as spec;
 ghost use Rattle.net_orders.specs.Orders.{FitsBut, is_of};
-ghost use Rattle.net_orders.specs.Raising.{AreLow, AreWithin, Rises, RisesUntil};
+ghost use Rattle.net_orders.specs.Raising.{AreLow, AreRanksWithin, RanksRise, RisesUntil};
 ghost use Rattle.net_core.specs.Limits.{max_points};
 ghost use Rattle.net_core.specs.Ranks.{timeline_of};
 ghost use Rattle.order_closure.specs.Tables.{AreInRange};
@@ -14,20 +14,20 @@ use net_core::{Atom, MAX_POINTS};
 
 /// Raises ranks until all orders hold but those of one link, in at most this number of turns. Whether they do: else some rank
 /// reached the highest, or the ranks still rose in each turn.
-pub fn settle(orders: &[Order], fixed: &[Atom], but: u32, ranks: &mut [u32], turns: u32) -> bool
-    requires orders { spec.AreBelow (length ranks.old) orders.now }
+pub fn settle(orders: &[Order], fixed: &[Atom], omitted: u32, ranks: &mut [u32], turns: u32) -> bool
+    requires orders { spec.AreOrdersBelow (length ranks.old) orders.now }
     requires fixed { AreInRange (length ranks.old) fixed.now }
     requires few { length ranks.old ≤ max_points }
-    requires within { AreWithin ranks.old }
-    ensures rises { Rises (FitsBut orders.now fixed.now but) ranks.old ranks.new }
-    ensures fits { IsTrue result → FitsBut orders.now fixed.now but (timeline_of ranks.new) }
+    requires within { AreRanksWithin ranks.old }
+    ensures rises { RanksRise (FitsBut orders.now fixed.now omitted) ranks.old ranks.new }
+    ensures fits { IsTrue result → FitsBut orders.now fixed.now omitted (timeline_of ranks.new) }
     ensures stuck { ¬ IsTrue result → AreLow ranks.new → turns ≤ sum_by (λ rank. rank) ranks.new }
 {
-    let place = place_of(orders, but);
+    let place = place_of(orders, omitted);
     raise_all(ranks, fixed);
     let mut before = total(ranks);
     for turn in 0..turns {
-        raise_turn(orders, fixed, but, place, turn % 2 == 0, ranks);
+        raise_turn(orders, fixed, omitted, place, turn % 2 == 0, ranks);
         let after = total(ranks);
         if after == before {
             return are_low(ranks);
@@ -42,24 +42,24 @@ pub fn settle(orders: &[Order], fixed: &[Atom], but: u32, ranks: &mut [u32], tur
 fn raise_turn(
     orders: &[Order],
     fixed: &[Atom],
-    but: u32,
+    omitted: u32,
     place: usize,
     forward: bool,
     ranks: &mut [u32],
 )
-    requires orders { spec.AreBelow (length ranks.old) orders.now }
+    requires orders { spec.AreOrdersBelow (length ranks.old) orders.now }
     requires fixed { AreInRange (length ranks.old) fixed.now }
     requires place { place ≤ length orders.now }
-    requires within { AreWithin ranks.old }
-    ensures { RisesUntil (FitsBut orders.now fixed.now but) ranks.old ranks.new }
+    requires within { AreRanksWithin ranks.old }
+    ensures { RisesUntil (FitsBut orders.now fixed.now omitted) ranks.old ranks.new }
 {
     let (before, after) = orders.split_at(place);
     if forward {
-        raise_orders(ranks, after, but);
-        raise_orders(ranks, before, but);
+        raise_orders(ranks, after, omitted);
+        raise_orders(ranks, before, omitted);
     } else {
-        raise_orders_back(ranks, before, but);
-        raise_orders_back(ranks, after, but);
+        raise_orders_back(ranks, before, omitted);
+        raise_orders_back(ranks, after, omitted);
     }
     raise_all(ranks, fixed);
 }

@@ -1,7 +1,7 @@
 -- Each drill has one answer.
 use Rattle.std.proofs.Common.{◌≡◌, ◌<◌, ℕ, List, [], ◌∷◌, false, length, refl, sym, ap, subst, ◌∙◌, Some}
 use Rattle.runs.specs.EveryReply.{HasNext}
-use Rattle.runs.specs.OneReply.{Agree, HasOneText, is_broken_off}
+use Rattle.runs.specs.OneReply.{Agree, HasOneText, is_aborted}
 use Rattle.runs.specs.Rows.{File, NeverFree, Next, answers, reads}
 use Rattle.runs.specs.declared.status.Status.{Status}
 use Rattle.runs.specs.declared.status.Status.TheVariants.{Done}
@@ -34,8 +34,8 @@ module _ (word : List ℕ) (n : ℕ) (is : drill_number word ≡ Some n) where
   few [] file row = absurd row
   few (bytes ∷ rest) file row = absurd row
 
-  whole : (contents : List (List ℕ)) (status : Status) (text : List ℕ) → drill_rows word contents (answers status text) → is_broken_off status ≡ false
-  whole [] status text row = ap is_broken_off (done row.0 status text row.2)
+  whole : (contents : List (List ℕ)) (status : Status) (text : List ℕ) → drill_rows word contents (answers status text) → is_aborted status ≡ false
+  whole [] status text row = ap is_aborted (done row.0 status text row.2)
   whole (bytes ∷ rest) status text row = absurd row
 
   line_of : (contents : List (List ℕ)) (status : Status) → (NeverFree contents status → ⊥) → HasOneText (drill_rows word) contents status

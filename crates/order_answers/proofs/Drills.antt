@@ -33,7 +33,7 @@ use Rattle.runs.specs.declared.status.Status.TheVariants.{Done}
 use Rattle.order_answers.specs.declared.drill_command.Figures.{Figures}
 use Rattle.order_answers.proofs.RelationsAnswered.{one_list_of}
 use Rattle.net_answers.proofs.Nets.{one_net_of}
-use Rattle.evidence_answers.proofs.VerifyAnswered.{same_status, same_text}
+use Rattle.evidence_answers.proofs.VerifyAnswered.{of_evidence}
 use Rattle.tml_accept.proofs.Phases.{accepted_or_fault, one_document}
 use Rattle.order_answers.proofs.Timelines.{one_least, timeline_supported}
 
@@ -66,8 +66,8 @@ timeline_verdict contents net ranks text finding line built fit is (other, is_ne
     let e = timeline (pairs_of ranks) in
     let shows = timeline_supported net ranks fit in
     let done : OfEvidence contents net text Done (codes "verified timeline\n") = (e ∷ [], inl is, all_of_one (IsSupported net) e shows, all_of_one (ShowsTruth net) e (supported_is_true net e shows), refl) in
-    let status = same_status contents net text (finding_status finding) Done line (codes "verified timeline\n") verdict done in
-    (finding_done finding status, same_text contents net text Done line (codes "verified timeline\n") (subst (λ (s : Status). OfEvidence contents net text s line) status verdict) done)
+    let status = (of_evidence contents net text).one_status (finding_status finding) Done line (codes "verified timeline\n") verdict done in
+    (finding_done finding status, (of_evidence contents net text).one_text Done line (codes "verified timeline\n") (λ free. free) (subst (λ (s : Status). OfEvidence contents net text s line) status verdict) done)
 
 -- ---- one summary
 

@@ -4,7 +4,7 @@ use Rattle.std.specs.List.{flat_map}
 use Rattle.answers.specs.Documents.{document_rows}
 use Rattle.answers.specs.Lines.{name_at, related}
 use Rattle.clash.specs.Closures.{IsClosureOf}
-use Rattle.derive_rel.specs.Entailed.{AreAll, AreRows, TableEntails}
+use Rattle.derive_rel.specs.Entailed.{AreAllRows, AreRows, TableEntails}
 use Rattle.derive_rel.specs.declared.all_rows.Row.{Row}
 use Rattle.net_answers.specs.Nets.{NetAnswers, of_net}
 use Rattle.net_core.specs.Entailment.{Follows}
@@ -21,7 +21,7 @@ FollowsBetween net row = (row.a < row.b) × (row.b < intervals net) × Follows n
 
 -- all relations that follow, each once, in the order of the intervals and of the table of relations
 abbrev pub AreRelations : PlainNet → List Row → Type 0
-AreRelations net rows = AreAll (FollowsBetween net) rows
+AreRelations net rows = AreAllRows (FollowsBetween net) rows
 
 -- the line of a relation, by the names of its intervals
 abbrev pub row_line : PlainDocument → Row → List ℕ

@@ -8,7 +8,7 @@ use Rattle.net_core.specs.Relations.{Timeline}
 use Rattle.net_core.specs.declared.atom.Atom.{Atom}
 use Rattle.order_closure.specs.declared.cell.Cell.{Cell}
 use Rattle.order_closure.specs.declared.cell.Cell.TheVariants.{Free, Weak, Strict}
-use Rattle.order_closure.specs.Cells.{Says, order, stronger, joined}
+use Rattle.order_closure.specs.Cells.{CellSays, order, stronger, joined}
 use Rattle.order_closure.specs.Tables.{Table, table_of, cell_at, new_cell, AreClosed, IsClosed, AreInRange, Stands, Denies, way, AreCellsKept, Keeps}
 use Rattle.order_closure.proofs.Raising.{raised_closed, raised_kept}
 use Rattle.order_closure.proofs.Tables.{cell_at-table_of, table_of-same, table_of-closed, new_same, new_other}
@@ -46,7 +46,7 @@ pub not_denied : (x y : Cell) (strict r : Bool) → IsTrue r ↔ Denies x strict
 not_denied x y strict r decides is e h = let both = decides.1 (subst (λ (z : Cell). Denies z strict) (sym e) h) in let clash : true ≡ false = sym both ∙ is in cc
 
 -- what a cell denies is not in order
-denied : (x : Cell) (strict : Bool) (a b : ℕ) → Denies x strict → Says x b a → ¬ IsInOrder strict a b
+denied : (x : Cell) (strict : Bool) (a b : ℕ) → Denies x strict → CellSays x b a → ¬ IsInOrder strict a b
 denied Strict true a b d h k = omega arith
 denied Strict false a b d h k = omega arith
 denied Weak true a b d h k = omega arith
@@ -64,7 +64,7 @@ new_closed n = record { itself = λ i li. new_same i; through = λ i j k li lj l
 -- every timeline keeps its cells
 new_kept : (n : ℕ) (t : Timeline) → AreCellsKept n new_cell t
 new_kept n t i j li lj = elim (cases_eq i j) [
-  | inl e ↦ subst (λ (m : ℕ). Says (new_cell i m) (t i) (t m)) e (rw new_same (omega arith))
+  | inl e ↦ subst (λ (m : ℕ). CellSays (new_cell i m) (t i) (t m)) e (rw new_same (omega arith))
   | inr h ↦ rw (new_other i j h) tt
 ]
 

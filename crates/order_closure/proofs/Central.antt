@@ -10,7 +10,7 @@ use Rattle.order_closure.specs.declared.cell.Cell.{Cell}
 use Rattle.order_closure.specs.declared.cell.Cell.TheVariants.{Free, Weak, Strict}
 use Rattle.net_core.specs.Atoms.{IsInOrder, Satisfies}
 use Rattle.net_core.specs.Relations.{Timeline}
-use Rattle.order_closure.specs.Cells.{strength, order, stronger, Says}
+use Rattle.order_closure.specs.Cells.{strength, order, stronger, CellSays}
 use Rattle.order_closure.specs.Tables.{Table, cell_at, Denies, IsClosed, Keeps, SatisfiesAll, AreInRange, Entails, Stands, AreClosed, AreCellsKept, way}
 use Rattle.order_closure.specs.Counting.{before_count}
 use Rattle.order_closure.specs.Timelines.{ClosedTablesHaveTimelines, opposite, WeakerCellsCanFail}
@@ -40,7 +40,7 @@ pub weaker_cells_can_fail : WeakerCellsCanFail
 weaker_cells_can_fail table atom closed f t weak = counter_time table.points (cell_at table) closed atom f t weak
 
 -- a denied atom is false where the cell is kept
-pub denied_false : (x : Cell) (strict : Bool) (a b : ℕ) → Denies x strict → Says x b a → IsInOrder strict a b → ⊥
+pub denied_false : (x : Cell) (strict : Bool) (a b : ℕ) → Denies x strict → CellSays x b a → IsInOrder strict a b → ⊥
 denied_false Free strict a b d said holds = d
 denied_false Weak true a b d said holds = omega arith
 denied_false Weak false a b d said holds = d
@@ -81,7 +81,7 @@ weak_is Weak h other = refl
 weak_is Strict h other = absurd (other refl)
 
 -- what a cell says at least
-weak_says : (x : Cell) (a b : ℕ) → 1 ≤ strength x → Says x a b → a ≤ b
+weak_says : (x : Cell) (a b : ℕ) → 1 ≤ strength x → CellSays x a b → a ≤ b
 weak_says Free a b e h = absurd (omega arith)
 weak_says Weak a b e h = h
 weak_says Strict a b e h = omega arith
@@ -114,7 +114,7 @@ stands_from_matches table atoms closed same = record {
 }
 
 -- a cell at least as strong as an order says that order
-pub order_says : (x : Cell) (o : Bool) (a b : ℕ) → strength (order o) ≤ strength x → Says x a b → IsInOrder o a b
+pub order_says : (x : Cell) (o : Bool) (a b : ℕ) → strength (order o) ≤ strength x → CellSays x a b → IsInOrder o a b
 order_says Free true a b h k = absurd (omega arith)
 order_says Free false a b h k = absurd (omega arith)
 order_says Weak true a b h k = absurd (omega arith)
@@ -123,7 +123,7 @@ order_says Strict true a b h k = k
 order_says Strict false a b h k = omega arith
 
 -- what a cell says, from what it says in both cases
-pub says_of : (x : Cell) (a b : ℕ) → (x ≡ Strict → a < b) → (x ≡ Weak → a ≤ b) → Says x a b
+pub says_of : (x : Cell) (a b : ℕ) → (x ≡ Strict → a < b) → (x ≡ Weak → a ≤ b) → CellSays x a b
 says_of Free a b s w = tt
 says_of Weak a b s w = w refl
 says_of Strict a b s w = s refl

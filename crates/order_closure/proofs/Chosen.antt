@@ -8,7 +8,7 @@ use Rattle.net_core.specs.Atoms.{Satisfies, before, no_later}
 use Rattle.net_core.specs.Relations.{Timeline}
 use Rattle.net_core.specs.declared.atom.Atom.{Atom}
 use Rattle.net_core.proofs.AtomLaws.{all_mapped}
-use Rattle.order_closure.specs.Cells.{Says, order, strength, stronger}
+use Rattle.order_closure.specs.Cells.{CellSays, order, strength, stronger}
 use Rattle.order_closure.specs.Chosen.{ChosenPointsDecide}
 use Rattle.order_closure.specs.Counting.{before_count}
 use Rattle.order_closure.specs.Tables.{AreClosed, Denies, cell_at, way}
@@ -21,7 +21,7 @@ module _ (n : ℕ) (chosen : List ℕ) (s : Timeline) (inside : (i : ℕ) → Co
   -- cells that are closed, and that a timeline keeps among the chosen points
   record Suits (cell : ℕ → ℕ → Cell) : Type 0 where
     pub closed : AreClosed n cell
-    pub among : (i j : ℕ) → Contains chosen i → Contains chosen j → Says (cell i j) (s i) (s j)
+    pub among : (i j : ℕ) → Contains chosen i → Contains chosen j → CellSays (cell i j) (s i) (s j)
 
   -- other cells that say no less
   abbrev SayMore : (ℕ → ℕ → Cell) → (ℕ → ℕ → Cell) → Type 0

@@ -1,6 +1,6 @@
 -- Numbers below a bound at which a test holds.
-use Rattle.std.proofs.Common.{◌≡◌, ℕ, zero, suc, ◌+◌, ◌<◌, ◌≤◌, Bool, true, false, cond, add-one, refl, sym, ap, ◌∙◌, arith, ◌⊎◌, inl, inr}
-use Rattle.std.proofs.lemmas.Bool.{cases_lt}
+use Rattle.std.proofs.Common.{◌≡◌, ℕ, zero, suc, ◌+◌, ◌<◌, ◌≤◌, Bool, true, false, cond, add-one, refl, sym, ap, ◌∙◌, arith, inl, inr}
+use Rattle.std.proofs.lemmas.Bool.{cases_lt, cases_Bool}
 use Rattle.order_closure.specs.Counting.{count}
 
 -- where the test holds, there is one more
@@ -25,16 +25,11 @@ pub count_none : (p : ℕ → Bool) → count p 0 ≡ 0
 unfolding count
 count_none p = refl
 
--- a test holds or not
-either : (b : Bool) → (b ≡ true) ⊎ (b ≡ false)
-either true = inl refl
-either false = inr refl
-
 -- no more than there are numbers
 pub count-le : (p : ℕ → Bool) (n : ℕ) → count p n ≤ n
 unfolding count
 count-le p zero = omega arith
-count-le p (suc n) = elim (either (p n)) [
+count-le p (suc n) = elim (cases_Bool (p n)) [
   | inl h ↦ omega (arith, count-le p n, count_true p n h)
   | inr h ↦ omega (arith, count-le p n, count_false p n h)
 ]
@@ -45,9 +40,9 @@ unfolding count
 count-mono p q zero h = omega arith
 count-mono p q (suc n) h =
     let rest : count p n ≤ count q n = count-mono p q n (λ k lt. h k (omega arith)) in
-    elim (either (p n)) [
+    elim (cases_Bool (p n)) [
       | inl t ↦ omega (arith, count_true p n t, count_true q n (h n (omega arith) t), rest)
-      | inr f ↦ elim (either (q n)) [
+      | inr f ↦ elim (cases_Bool (q n)) [
         | inl t ↦ omega (arith, count_false p n f, count_true q n t, rest)
         | inr g ↦ omega (arith, count_false p n f, count_false q n g, rest)
       ]
@@ -59,9 +54,9 @@ count-more p q zero m lt pm qm h = absurd (omega arith)
 count-more p q (suc n) m lt pm qm h = elim (cases_lt m n) [
   | inl below ↦
       let rest : count p n < count q n = count-more p q n m below pm qm (λ k lt. h k (omega arith)) in
-      elim (either (p n)) [
+      elim (cases_Bool (p n)) [
         | inl t ↦ omega (arith, count_true p n t, count_true q n (h n (omega arith) t), rest)
-        | inr f ↦ elim (either (q n)) [
+        | inr f ↦ elim (cases_Bool (q n)) [
           | inl t ↦ omega (arith, count_false p n f, count_true q n t, rest)
           | inr g ↦ omega (arith, count_false p n f, count_false q n g, rest)
         ]

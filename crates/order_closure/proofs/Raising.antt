@@ -5,7 +5,7 @@ use Rattle.net_core.specs.Relations.{Timeline}
 use Rattle.net_core.specs.declared.atom.Atom.{Atom}
 use Rattle.order_closure.specs.declared.cell.Cell.{Cell}
 use Rattle.order_closure.specs.declared.cell.Cell.TheVariants.{Free, Weak, Strict}
-use Rattle.order_closure.specs.Cells.{Says, strength, order, stronger, joined}
+use Rattle.order_closure.specs.Cells.{CellSays, strength, order, stronger, joined}
 use Rattle.order_closure.specs.Tables.{AreClosed, AreCellsKept, way, Denies}
 use Rattle.order_closure.proofs.Joining.{strength-stronger, joined_assoc, joined-mono, stronger_stays, back_is_weak}
 
@@ -62,20 +62,20 @@ back_adds_nothing Weak x h = omega arith
 back_adds_nothing Strict x h = absurd (omega arith)
 
 -- what a cell says, the weaker ones say too
-pub weaker_holds : (x y : Cell) (a b : ℕ) → strength x ≤ strength y → Says y a b → Says x a b
+pub weaker_holds : (x y : Cell) (a b : ℕ) → strength x ≤ strength y → CellSays y a b → CellSays x a b
 weaker_holds Free y a b le h = tt
 weaker_holds Weak Weak a b le h = h
 weaker_holds Weak Strict a b le h = omega arith
 weaker_holds Strict Strict a b le h = h
 weaker_holds x y a b le h = absurd (omega arith)
 
-both_hold : (x y : Cell) (a b : ℕ) → Says x a b → Says y a b → Says (stronger x y) a b
+both_hold : (x y : Cell) (a b : ℕ) → CellSays x a b → CellSays y a b → CellSays (stronger x y) a b
 both_hold x y a b h k = elim (either x y) [
   | inl e ↦ rw e h
   | inr e ↦ rw e k
 ]
 
-joined_holds : (x y : Cell) (a b c : ℕ) → Says x a b → Says y b c → Says (joined x y) a c
+joined_holds : (x y : Cell) (a b c : ℕ) → CellSays x a b → CellSays y b c → CellSays (joined x y) a c
 joined_holds Free y a b c h k = tt
 joined_holds Weak Free a b c h k = tt
 joined_holds Weak Weak a b c h k = omega arith
@@ -84,11 +84,11 @@ joined_holds Strict Free a b c h k = tt
 joined_holds Strict Weak a b c h k = omega arith
 joined_holds Strict Strict a b c h k = omega arith
 
-order_holds : (o : Bool) (a b : ℕ) → Says (order o) a b → IsInOrder o a b
+order_holds : (o : Bool) (a b : ℕ) → CellSays (order o) a b → IsInOrder o a b
 order_holds true a b h = h
 order_holds false a b h = h
 
-holds_order : (o : Bool) (a b : ℕ) → IsInOrder o a b → Says (order o) a b
+holds_order : (o : Bool) (a b : ℕ) → IsInOrder o a b → CellSays (order o) a b
 holds_order true a b h = h
 holds_order false a b h = h
 
@@ -97,8 +97,8 @@ order_in x true = rw strength-stronger (omega arith)
 order_in x false = rw strength-stronger (omega arith)
 
 -- a raised cell is true of a timeline that satisfies the atom and of which three cells are true: the cell itself, that to the atom and that from it
-pub raised_says : (cell : ℕ → ℕ → Cell) (atom : Atom) (time : Timeline) (i j : ℕ) → Says (cell i j) (time i) (time j) → Says (cell i atom.from) (time i) (time atom.from) → Says (cell atom.to j) (time atom.to) (time j)
-    → Satisfies time atom → Says (stronger (cell i j) (way cell atom i j)) (time i) (time j)
+pub raised_says : (cell : ℕ → ℕ → Cell) (atom : Atom) (time : Timeline) (i j : ℕ) → CellSays (cell i j) (time i) (time j) → CellSays (cell i atom.from) (time i) (time atom.from) → CellSays (cell atom.to j) (time atom.to) (time j)
+    → Satisfies time atom → CellSays (stronger (cell i j) (way cell atom i j)) (time i) (time j)
 raised_says cell atom time i j here to from holds =
     both_hold (cell i j) (way cell atom i j) _ _ here (joined_holds (joined (cell i atom.from) (order atom.strict)) (cell atom.to j) (time i) (time atom.to) (time j)
     (joined_holds (cell i atom.from) (order atom.strict) (time i) (time atom.from) (time atom.to) to (holds_order atom.strict _ _ holds)) from)

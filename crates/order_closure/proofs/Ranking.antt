@@ -5,7 +5,7 @@ use Rattle.net_core.specs.Atoms.{IsInOrder}
 use Rattle.net_core.specs.Relations.{Timeline}
 use Rattle.order_closure.specs.declared.cell.Cell.{Cell}
 use Rattle.order_closure.specs.declared.cell.Cell.TheVariants.{Free, Weak, Strict}
-use Rattle.order_closure.specs.Cells.{strength, order, joined, Says}
+use Rattle.order_closure.specs.Cells.{strength, order, joined, CellSays}
 use Rattle.order_closure.specs.Tables.{AreClosed, AreCellsKept, Denies}
 use Rattle.order_closure.specs.Counting.{is_strict, before_count}
 use Rattle.order_closure.proofs.Counting.{count-le, count-mono, count-more}
@@ -29,13 +29,13 @@ joined_strict x Weak z e h k = strict_from z (rw e at k)
 joined_strict x Strict z e h k = strict_from z (rw e at k)
 
 -- what a cell says, from what follows where it is Weak or Strict and where it is Strict
-says_from : (x : Cell) (a b : ℕ) → (1 ≤ strength x → a ≤ b) → (x ≡ Strict → a < b) → Says x a b
+says_from : (x : Cell) (a b : ℕ) → (1 ≤ strength x → a ≤ b) → (x ≡ Strict → a < b) → CellSays x a b
 says_from Free a b h k = tt
 says_from Weak a b h k = h (omega arith)
 says_from Strict a b h k = k refl
 
 -- what Strict says
-pub strict_says : (x : Cell) (a b : ℕ) → x ≡ Strict → Says x a b → a < b
+pub strict_says : (x : Cell) (a b : ℕ) → x ≡ Strict → CellSays x a b → a < b
 strict_says Free a b e h = cc
 strict_says Weak a b e h = cc
 strict_says Strict a b e h = h

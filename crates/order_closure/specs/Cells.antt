@@ -4,10 +4,10 @@ use Rattle.order_closure.specs.declared.cell.Cell.{Cell}
 use Rattle.order_closure.specs.declared.cell.Cell.TheVariants.{Free, Weak, Strict}
 
 -- what a cell says of the places of its two points
-abbrev pub Says : Cell → ℕ → ℕ → Type 0
-Says Free m n = ⊤
-Says Weak m n = m ≤ n
-Says Strict m n = m < n
+abbrev pub CellSays : Cell → ℕ → ℕ → Type 0
+CellSays Free m n = ⊤
+CellSays Weak m n = m ≤ n
+CellSays Strict m n = m < n
 
 -- Strict says more than Weak, and Weak more than Free
 abbrev pub strength : Cell → ℕ

@@ -2,12 +2,12 @@
 use Rattle.std.specs.Prelude.{ℕ, ◌<◌, ◌↔◌, List}
 use Rattle.std.specs.List.{All, Contains}
 use Rattle.net_core.specs.Relations.{Timeline}
-use Rattle.order_closure.specs.Cells.{Says}
+use Rattle.order_closure.specs.Cells.{CellSays}
 use Rattle.order_closure.specs.Tables.{IsClosed, Keeps, Table, cell_at}
 
 -- what the cells of these points say of each other is true of a timeline
 abbrev pub KeepsAmong : Table → List ℕ → Timeline → Type 0
-KeepsAmong table chosen t = (i j : ℕ) → Contains chosen i → Contains chosen j → Says (cell_at table i j) (t i) (t j)
+KeepsAmong table chosen t = (i j : ℕ) → Contains chosen i → Contains chosen j → CellSays (cell_at table i j) (t i) (t j)
 
 -- two timelines have these points in the same order
 abbrev pub OrderAlike : List ℕ → Timeline → Timeline → Type 0

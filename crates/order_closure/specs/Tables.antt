@@ -5,7 +5,7 @@ use Rattle.net_core.specs.Atoms.{IsInOrder, IsInRange, Satisfies}
 use Rattle.net_core.specs.Limits.{max_points}
 use Rattle.net_core.specs.Relations.{Timeline}
 use Rattle.net_core.specs.declared.atom.Atom.{Atom}
-use Rattle.order_closure.specs.Cells.{Says, joined, order, strength}
+use Rattle.order_closure.specs.Cells.{CellSays, joined, order, strength}
 use Rattle.order_closure.specs.declared.cell.Cell.{Cell}
 use Rattle.order_closure.specs.declared.cell.Cell.TheVariants.{Free, Weak, Strict}
 
@@ -31,7 +31,7 @@ new_cell i j = if i == j then Weak else Free
 
 -- what each cell says is true of a timeline
 abbrev pub AreCellsKept : ℕ → (ℕ → ℕ → Cell) → Timeline → Type 0
-AreCellsKept n cell t = (i j : ℕ) → i < n → j < n → Says (cell i j) (t i) (t j)
+AreCellsKept n cell t = (i j : ℕ) → i < n → j < n → CellSays (cell i j) (t i) (t j)
 
 abbrev pub Keeps : Table → Timeline → Type 0
 Keeps table t = AreCellsKept table.points (cell_at table) t

@@ -23,7 +23,7 @@ pub trait PointOf<T>: Copy {
 }
 
 /// Items, those with the lowest point first, with where those of each point begin. What asks for the items of a point
-/// often would spend most of its time on looking them up by halves.
+/// often would spend most of its time on binary searches.
 #[derive(Drop)]
 pub struct Index<T: Copy, P: PointOf<T>> {
     by: P,

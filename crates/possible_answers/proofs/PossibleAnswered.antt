@@ -12,7 +12,7 @@ use Rattle.net_core.specs.Entailment.{AreIntervals, HasTimeline}
 use Rattle.net_core.specs.Fits.{Fits}
 use Rattle.net_core.specs.Nets.{IsNet, PlainNet, points}
 use Rattle.order_closure.specs.Tables.{AreCellsKept, Keeps, Table}
-use Rattle.possible_answers.specs.Possible.{IsItemsText, OfPossible, ReportsUnknown, items_text, of_intervals, possible_rows}
+use Rattle.possible_answers.specs.Possible.{IsItemsText, OfPossible, ReportsUnknownName, items_text, of_intervals, possible_rows}
 use Rattle.tml_accept.specs.Acceptance.{Says}
 use Rattle.tml_possible.specs.Possible.{AreShown}
 use Rattle.tml_possible.proofs.Deciding.{every_item}
@@ -30,11 +30,11 @@ shows_items contents net table a b text closure (items, shown, is) =
 
 -- ---- the words
 
-named_or_unknown : (contents : PlainDocument) (x y text : List ℕ) → NamesOne contents x → NamesOne contents y → ReportsUnknown contents x y text → ⊥
+named_or_unknown : (contents : PlainDocument) (x y text : List ℕ) → NamesOne contents x → NamesOne contents y → ReportsUnknownName contents x y text → ⊥
 named_or_unknown contents x y text first second (inl h) = h.0 first.0 first.1
 named_or_unknown contents x y text first second (inr h) = h.1 second.0 second.1
 
-one_unknown : (contents : PlainDocument) (x y text line : List ℕ) → ReportsUnknown contents x y text → ReportsUnknown contents x y line → text ≡ line
+one_unknown : (contents : PlainDocument) (x y text line : List ℕ) → ReportsUnknownName contents x y text → ReportsUnknownName contents x y line → text ≡ line
 one_unknown contents x y text line (inl h) (inl k) = h.1 ∙ sym k.1
 one_unknown contents x y text line (inl h) (inr k) = absurd (h.0 k.0.0 k.0.1)
 one_unknown contents x y text line (inr h) (inl k) = absurd (k.0 h.0.0 h.0.1)
@@ -62,7 +62,7 @@ of_numbers a b contents net is fits both =
 module _ (x y doc : List ℕ) (contents : PlainDocument) (says : Says doc contents) where
   -- a word that names no interval is reported, or both name one
   abbrev Unknown : Answer
-  Unknown status text = (status ≡ UnknownName) × ReportsUnknown contents x y text
+  Unknown status text = (status ≡ UnknownName) × ReportsUnknownName contents x y text
 
   abbrev Known : Answer
   Known status text = (a : ℕ) × (b : ℕ) × IsNamed contents.intervals x a × IsNamed contents.intervals y b × of_net (of_intervals a b) contents status text
@@ -78,7 +78,7 @@ module _ (x y doc : List ℕ) (contents : PlainDocument) (says : Says doc conten
       let right = is.distinct y asked.1 other.1 h.1 k.1 in
       λ i. (left i, right i)
 
-  of_unknown : (text : List ℕ) → ReportsUnknown contents x y text → IsAnswered ⊤ (OfPossible x y contents) (λ status. status ≡ Clash)
+  of_unknown : (text : List ℕ) → ReportsUnknownName contents x y text → IsAnswered ⊤ (OfPossible x y contents) (λ status. status ≡ Clash)
   of_unknown text reports = left_only
       (one_answer Unknown (λ status. status ≡ Clash) UnknownName refl (λ status line h. h.0) (λ line other determined h k. one_unknown contents x y line other h.1 k.1) text (refl, reports))
       Known (λ status line h. named_or_unknown contents x y text (h.0, h.2) (h.1, h.3) reports)

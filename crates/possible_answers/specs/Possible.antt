@@ -31,14 +31,14 @@ of_intervals a b contents net Done text = (items : List PossibleItem) × AreShow
 of_intervals a b contents net other text = ⊥
 
 -- the first of the words X and Y that names no interval
-abbrev pub ReportsUnknown : PlainDocument → List ℕ → List ℕ → List ℕ → Type 0
-ReportsUnknown contents x y text =
+abbrev pub ReportsUnknownName : PlainDocument → List ℕ → List ℕ → List ℕ → Type 0
+ReportsUnknownName contents x y text =
     (NamesNone contents x × (text ≡ codes "unknown X\n")) ⊎ (NamesOne contents x × NamesNone contents y × (text ≡ codes "unknown Y\n"))
 
 -- `possible` reports the first word that names no interval, or answers what is asked
 abbrev pub OfPossible : List ℕ → List ℕ → Contents
 OfPossible x y contents status text =
-    ((status ≡ UnknownName) × ReportsUnknown contents x y text)
+    ((status ≡ UnknownName) × ReportsUnknownName contents x y text)
     ⊎ ((a : ℕ) × (b : ℕ) × IsNamed contents.intervals x a × IsNamed contents.intervals y b × of_net (of_intervals a b) contents status text)
 
 -- the rows of `possible NAME X Y`

@@ -6,22 +6,22 @@ use Rattle.tml_io.specs.Files.{Files, IsThere, held}
 use Rattle.runs.specs.declared.status.Status.{Status}
 use Rattle.runs.specs.declared.status.Status.TheVariants.{TooLong}
 use Rattle.runs.specs.EveryReply.{HasExactlyOneReply, HasNext}
-use Rattle.runs.specs.OneReply.{is_broken_off}
+use Rattle.runs.specs.OneReply.{is_aborted}
 use Rattle.runs.specs.Reading.{AllThere, ReadsWhole}
 use Rattle.runs.specs.Replies.{Replies, too_long}
 use Rattle.runs.specs.Rows.{File, Freedom, Next, Rows, answers, once_read, reads}
 use Rattle.runs.proofs.Answering.{AreAnswered}
 use Rattle.runs.proofs.OneReply.{one_reply}
 
--- over these files there is a reply that is not broken off
+-- over these files there is a reply that is not aborted
 abbrev HasReply : Files → Rows → Type 0
-HasReply files rows = (status : Status) × (text : List ℕ) × (taken : ℕ) × (is_broken_off status ≡ false) × Replies (Some files) rows status text taken
+HasReply files rows = (status : Status) × (text : List ℕ) × (taken : ℕ) × (is_aborted status ≡ false) × Replies (Some files) rows status text taken
 
--- rows after which something comes next, which read no more than a number of files, and whose answers are not broken off
+-- rows after which something comes next, which read no more than a number of files, and whose answers are not aborted
 record AreWhole (most : ℕ) (rows : Rows) : Type 0 where
   next : HasNext rows
   few : (contents : List (List ℕ)) (file : File) → rows contents (reads file) → length contents < most
-  whole : (contents : List (List ℕ)) (status : Status) (text : List ℕ) → rows contents (answers status text) → is_broken_off status ≡ false
+  whole : (contents : List (List ℕ)) (status : Status) (text : List ℕ) → rows contents (answers status text) → is_aborted status ≡ false
 
 -- the rows that are left once a file was read
 rest_whole : (most : ℕ) (rows : Rows) (file : File) (bytes : List ℕ) → rows [] (reads file) → length bytes ≤ file.limit → AreWhole (suc most) rows → AreWhole most (once_read bytes rows)
@@ -59,7 +59,7 @@ holds files name there = by (held files name) refl there
     by None is some = absurd (let none = ap is_some is in cc)
 
 -- a reply by what comes next
-next_replies : (files : Files) (rows : Rows) → ((status : Status) (text : List ℕ) → rows [] (answers status text) → is_broken_off status ≡ false) → AllThere (Some files) rows
+next_replies : (files : Files) (rows : Rows) → ((status : Status) (text : List ℕ) → rows [] (answers status text) → is_aborted status ≡ false) → AllThere (Some files) rows
     → ((file : File) (bytes : List ℕ) → rows [] (reads file) → ReadsWhole (Some files) file bytes → HasReply files (once_read bytes rows))
     → (next : Next) → rows [] next → HasReply files rows
 next_replies files rows whole there further (answers status text) row = (status, text, 0, whole status text row, record { contents = []; reading = tt; part = 0; ends = inl (row, refl); bytes = refl })

@@ -7,8 +7,8 @@ use Rattle.runs.specs.declared.status.Status.TheVariants.{TooLong}
 use Rattle.runs.specs.EveryReply.{HasNext}
 use Rattle.runs.specs.OneFile.{Answers, of_its_bytes, of_one_file}
 use Rattle.runs.proofs.Answering.{AreAnswered, IsAnswered}
-use Rattle.runs.specs.OneReply.{Agree, HasOneText, is_broken_off}
-use Rattle.runs.specs.Reading.{ReadsWhole, Reading, total}
+use Rattle.runs.specs.OneReply.{Agree, HasOneText, is_aborted}
+use Rattle.runs.specs.Reading.{ReadsWhole, AreFirstContents, total_length}
 use Rattle.runs.specs.Replies.{Replies}
 use Rattle.runs.specs.Rows.{File, Freedom, NeverFree, Next, Rows, answers, reads}
 use Rattle.runs.proofs.OneReply.{EndsWhole, ends_whole, not_both, one_held}
@@ -31,7 +31,7 @@ module _ (file : File) (Of : Answers) (IsFree : List ℕ → Status → Type 0) 
   few (bytes ∷ []) other row = absurd row
   few (bytes ∷ more ∷ rest) other row = absurd row
 
-  whole : (contents : List (List ℕ)) (status : Status) (text : List ℕ) → of_one_file file Of contents (answers status text) → is_broken_off status ≡ false
+  whole : (contents : List (List ℕ)) (status : Status) (text : List ℕ) → of_one_file file Of contents (answers status text) → is_aborted status ≡ false
   whole (bytes ∷ []) status text row = (are bytes).whole status text row
   whole contents status text row = absurd row
 
@@ -68,27 +68,27 @@ pub the_one : (files : Files) (file other : File) (bytes found : List ℕ) → h
 the_one files file other bytes found known same gives = one_held (held files file.name) found bytes (subst (λ (f : File). held files f.name ≡ Some found) same gives.0) known
 
 module _ (files : Files) (file : File) (Of : Answers) (bytes : List ℕ) (known : held files file.name ≡ Some bytes) (short : length bytes ≤ file.limit) where
-  answer_after : (contents : List (List ℕ)) (status : Status) (text : List ℕ) (part : ℕ) → Reading (Some files) (of_one_file file Of) contents → EndsWhole (Some files) (of_one_file file Of) contents status text part → Of bytes status text
+  answer_after : (contents : List (List ℕ)) (status : Status) (text : List ℕ) (part : ℕ) → AreFirstContents (Some files) (of_one_file file Of) contents → EndsWhole (Some files) (of_one_file file Of) contents status text part → Of bytes status text
   answer_after [] status text part reading (inl h) = absurd h.0
   answer_after [] status text part reading (inr h) = absurd (not_both files file h.0 bytes (sym h.1) (known, short) h.2.0)
   answer_after (found ∷ []) status text part reading (inl h) = subst (λ (b : List ℕ). Of b status text) (the_one files file reading.0 bytes found known reading.1 reading.2) h.0
   answer_after (found ∷ []) status text part reading (inr h) = absurd h.1
   answer_after (found ∷ more ∷ rest) status text part reading h = absurd reading.3.1
 
-  -- a reply that is not broken off answers what the file holds
-  pub replied : (status : Status) (text : List ℕ) (taken : ℕ) → is_broken_off status ≡ false → Replies (Some files) (of_one_file file Of) status text taken → Of bytes status text
+  -- a reply that is not aborted answers what the file holds
+  pub replied : (status : Status) (text : List ℕ) (taken : ℕ) → is_aborted status ≡ false → Replies (Some files) (of_one_file file Of) status text taken → Of bytes status text
   replied status text taken whole h = answer_after h.contents status text h.part h.reading (ends_whole (Some files) (of_one_file file Of) h.contents status text h.part whole h.ends)
 
   -- and each answer to that is a reply
-  pub replies : (status : Status) (text : List ℕ) → Of bytes status text → Replies (Some files) (of_one_file file Of) status text (total (bytes ∷ []) + 0)
+  pub replies : (status : Status) (text : List ℕ) → Of bytes status text → Replies (Some files) (of_one_file file Of) status text (total_length (bytes ∷ []) + 0)
   replies status text h = record { contents = bytes ∷ []; reading = (file, refl, (known, short), tt); part = 0; ends = inl (h, refl); bytes = refl }
 
--- a reply that is not broken off is an answer to what the file holds, where that is short enough, or the file is too long
-pub answered_or_long : (files : Files) (file : File) (Of : Answers) (status : Status) (text : List ℕ) (taken : ℕ) → is_broken_off status ≡ false → Replies (Some files) (of_one_file file Of) status text taken
+-- a reply that is not aborted is an answer to what the file holds, where that is short enough, or the file is too long
+pub answered_or_long : (files : Files) (file : File) (Of : Answers) (status : Status) (text : List ℕ) (taken : ℕ) → is_aborted status ≡ false → Replies (Some files) (of_one_file file Of) status text taken
     → ((bytes : List ℕ) × (held files file.name ≡ Some bytes) × (length bytes ≤ file.limit) × Of bytes status text) ⊎ (status ≡ TooLong)
 answered_or_long files file Of status text taken whole h = after h.contents h.reading (ends_whole (Some files) (of_one_file file Of) h.contents status text h.part whole h.ends)
   where
-    after : (contents : List (List ℕ)) → Reading (Some files) (of_one_file file Of) contents → EndsWhole (Some files) (of_one_file file Of) contents status text h.part
+    after : (contents : List (List ℕ)) → AreFirstContents (Some files) (of_one_file file Of) contents → EndsWhole (Some files) (of_one_file file Of) contents status text h.part
         → ((bytes : List ℕ) × (held files file.name ≡ Some bytes) × (length bytes ≤ file.limit) × Of bytes status text) ⊎ (status ≡ TooLong)
     after [] reading (inl row) = absurd row.0
     after (bytes ∷ []) reading (inl row) =

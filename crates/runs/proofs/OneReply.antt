@@ -1,12 +1,12 @@
--- Over known files a command has one reply that is not broken off, since one thing comes next.
+-- Over known files a command has one reply that is not aborted, since one thing comes next.
 use Rattle.std.proofs.Common.{◌≡◌, ◌⊎◌, ℕ, ◌+◌, ◌<◌, false, List, [], ◌∷◌, length, refl, sym, ap, subst, ◌∙◌, Option, Some, inl, inr, arith}
 use Rattle.tml_io.specs.Files.{Files, held}
 use Rattle.runs.specs.declared.status.Status.{Status}
 use Rattle.runs.specs.declared.status.Status.TheVariants.{ReadFault, NoMemory, TooLong}
 use Rattle.runs.specs.Rows.{File, Rows, answers, reads, once_read}
-use Rattle.runs.specs.Reading.{ReadsWhole, Reading, total}
+use Rattle.runs.specs.Reading.{ReadsWhole, AreFirstContents, total_length}
 use Rattle.runs.specs.Replies.{RepliesAfter, IsTooLong, CannotRead, too_long}
-use Rattle.runs.specs.OneReply.{HasOneNext, HasOneReply, HasOneText, HasOneTextOf, is_broken_off}
+use Rattle.runs.specs.OneReply.{HasOneNext, HasOneReply, HasOneText, HasOneTextOf, is_aborted}
 
 -- a name holds one list of bytes
 pub one_held : (o : Option (List ℕ)) (bytes other : List ℕ) → o ≡ Some bytes → o ≡ Some other → bytes ≡ other
@@ -19,11 +19,11 @@ not_both files file other bytes e gives long =
     let same = one_held (held files other.name) bytes long.0 gives.0 long.1 in
     omega (arith, gives.1, subst (λ (b : List ℕ). other.limit < length b) (sym same) long.2)
 
--- a file that ends a command, where that is not broken off, is too long
+-- a file that ends a command, where that is not aborted, is too long
 abbrev pub IsTheLongOne : Option Files → File → Status → List ℕ → ℕ → Type 0
 IsTheLongOne known file status text part = IsTooLong known file × (status ≡ TooLong) × (text ≡ too_long file.word) × (part ≡ file.limit + 1)
 
-stops_long : (known : Option Files) (file : File) (status : Status) (text : List ℕ) (part : ℕ) → is_broken_off status ≡ false → CannotRead known file status text part → IsTheLongOne known file status text part
+stops_long : (known : Option Files) (file : File) (status : Status) (text : List ℕ) (part : ℕ) → is_aborted status ≡ false → CannotRead known file status text part → IsTheLongOne known file status text part
 stops_long known file ReadFault text part e h = absurd (cc e)
 stops_long known file NoMemory text part e h = absurd (cc e)
 stops_long known file TooLong text part e h = (h.1, refl, h.0, h.2)
@@ -35,10 +35,10 @@ EndsWhole known rows contents status text part =
     (rows contents (answers status text) × (part ≡ 0)) ⊎ ((file : File) × rows contents (reads file) × IsTheLongOne known file status text part)
 
 pub ends_whole : (known : Option Files) (rows : Rows) (contents : List (List ℕ)) (status : Status) (text : List ℕ) (part : ℕ)
-    → is_broken_off status ≡ false → RepliesAfter known rows contents status text part → EndsWhole known rows contents status text part
+    → is_aborted status ≡ false → RepliesAfter known rows contents status text part → EndsWhole known rows contents status text part
 ends_whole known rows contents status text part e (inl h) = inl h
 ends_whole known rows contents status text part e (inr (inl h)) = inr (h.0, h.1, stops_long known h.0 status text part e h.2)
-ends_whole known rows contents status text part e (inr (inr h)) = absurd (cc (sym e ∙ ap is_broken_off h.0))
+ends_whole known rows contents status text part e (inr (inr h)) = absurd (cc (sym e ∙ ap is_aborted h.0))
 
 -- two replies, with the bytes that were taken
 abbrev Same : Status → List ℕ → ℕ → Status → List ℕ → ℕ → Type 0 → Type 0
@@ -63,9 +63,9 @@ not_yet rows one files contents status text part file bytes (inl h) next gives =
 not_yet rows one files contents status text part file bytes (inr h) next gives = not_both files file h.0 bytes (one contents (reads file) (reads h.0) next h.1) gives h.2.0
 
 one_after : (rows : Rows) → HasOneNext rows → (files : Files) (contents others : List (List ℕ)) (status other : Status) (text line : List ℕ) (part rest : ℕ)
-    → Reading (Some files) rows contents → Reading (Some files) rows others
+    → AreFirstContents (Some files) rows contents → AreFirstContents (Some files) rows others
     → EndsWhole (Some files) rows contents status text part → EndsWhole (Some files) rows others other line rest
-    → Same status text (total contents + part) other line (total others + rest) (HasOneTextOf files rows status)
+    → Same status text (total_length contents + part) other line (total_length others + rest) (HasOneTextOf files rows status)
 one_after rows one files [] [] status other text line part rest r q h k =
     let same = one_end rows one (Some files) [] status other text line part rest h k in
     (same.0, ap (λ (n : ℕ). 0 + n) same.1, λ texts. same.2 (texts [] tt))
@@ -76,7 +76,7 @@ one_after rows one files (c ∷ cs) (d ∷ ds) status other text line part rest 
     let gives = subst (λ (f : File). ReadsWhole (Some files) f c) file r.2 in
     let bytes = one_held (held files q.0.name) c d gives.0 q.2.0 in
     let same = one_after (once_read c rows) (λ contents. one (c ∷ contents)) files cs ds status other text line part rest r.3
-    (subst (λ (b : List ℕ). Reading (Some files) (once_read b rows) ds) (sym bytes) q.3) h
+    (subst (λ (b : List ℕ). AreFirstContents (Some files) (once_read b rows) ds) (sym bytes) q.3) h
     (subst (λ (b : List ℕ). EndsWhole (Some files) rows (b ∷ ds) other line rest) (sym bytes) k) in
     (same.0, omega (arith, same.1, ap length bytes), λ texts. same.2 (λ contents reading. texts (c ∷ contents) (r.0, r.1, r.2, reading)))
 

@@ -5,11 +5,11 @@ use Rattle.runs.specs.declared.status.Status.{Status}
 use Rattle.runs.specs.declared.status.Status.TheVariants.{TooLong}
 use Rattle.runs.specs.EveryReply.{HasNext}
 use Rattle.runs.specs.OneFile.{Answers}
-use Rattle.runs.specs.OneReply.{Agree, HasOneText, is_broken_off}
-use Rattle.runs.specs.Reading.{ReadsWhole, Reached, Reading, total}
+use Rattle.runs.specs.OneReply.{Agree, HasOneText, is_aborted}
+use Rattle.runs.specs.Reading.{ReadsWhole, Reached, AreFirstContents, total_length}
 use Rattle.runs.specs.Replies.{Replies}
 use Rattle.runs.specs.Rows.{File, NeverFree, Next, Rows, answers, reads}
-use Rattle.runs.specs.TwoFiles.{CannotJudge, IsPassed, IsRefusedFirst, Judging, after_first, of_both, of_two_files}
+use Rattle.runs.specs.TwoFiles.{CannotJudge, IsNotRefused, IsRefusedFirst, Judging, after_first, of_both, of_two_files}
 use Rattle.runs.proofs.Answering.{AreAnswered, IsAnsweredAfter, IsDecisive}
 use Rattle.runs.proofs.HowItEnds.{answered}
 use Rattle.runs.proofs.OneFile.{freer, the_one}
@@ -49,7 +49,7 @@ module _ {C : Type 0} (judging : Judging C) (first second : File) (Of : C → An
   few (one ∷ other ∷ []) file row = absurd row
   few (one ∷ other ∷ more ∷ rest) file row = absurd row
 
-  whole_row : (contents : List (List ℕ)) (status : Status) (text : List ℕ) → of_two_files judging first second Of contents (answers status text) → is_broken_off status ≡ false
+  whole_row : (contents : List (List ℕ)) (status : Status) (text : List ℕ) → of_two_files judging first second Of contents (answers status text) → is_aborted status ≡ false
   whole_row (one ∷ []) status text row = (is.refusal one).whole status text row
   whole_row (one ∷ other ∷ []) status text row = (are one row.0 row.1 other).whole status text row.2
   whole_row contents status text row = absurd row
@@ -76,19 +76,19 @@ both_answered_once {C} judging first second Of is are =
 
 -- the first file is refused after it was read, or out of memory
 pub refused_or_not : {C : Type 0} (judging : Judging C) (known : Option Files) (rows : Rows) (one : List ℕ) (status : Status) (text : List ℕ) (taken : ℕ)
-    → Reading known rows (one ∷ []) → (judging.IsRefused one status text → rows (one ∷ []) (answers status text)) → CannotJudge judging one status text → taken ≡ total (one ∷ [])
+    → AreFirstContents known rows (one ∷ []) → (judging.IsRefused one status text → rows (one ∷ []) (answers status text)) → CannotJudge judging one status text → taken ≡ total_length (one ∷ [])
     → Replies known rows status text taken
 refused_or_not judging known rows one status text taken reading next (inl h) e = answered known rows (one ∷ []) status text taken reading (next h) e
 refused_or_not judging known rows one status text taken reading next (inr h) e =
     record { contents = one ∷ []; reading = reading; part = 0; ends = inr (inr (h.0, h.1, refl)); bytes = omega arith }
 
--- A reply that is not broken off is by the first file, where that is short enough: it is refused, or some second file is answered. Or a file is too long.
-pub judged_or_long : {C : Type 0} (judging : Judging C) (files : Files) (first second : File) (Of : C → Answers) (status : Status) (text : List ℕ) (taken : ℕ) → is_broken_off status ≡ false
+-- A reply that is not aborted is by the first file, where that is short enough: it is refused, or some second file is answered. Or a file is too long.
+pub judged_or_long : {C : Type 0} (judging : Judging C) (files : Files) (first second : File) (Of : C → Answers) (status : Status) (text : List ℕ) (taken : ℕ) → is_aborted status ≡ false
     → Replies (Some files) (of_two_files judging first second Of) status text taken
     → ((one : List ℕ) × (held files first.name ≡ Some one) × (length one ≤ first.limit) × (judging.IsRefused one status text ⊎ ((other : List ℕ) × after_first judging Of one other status text))) ⊎ (status ≡ TooLong)
 judged_or_long judging files first second Of status text taken whole h = after h.contents h.reading (ends_whole (Some files) (of_two_files judging first second Of) h.contents status text h.part whole h.ends)
   where
-    after : (contents : List (List ℕ)) → Reading (Some files) (of_two_files judging first second Of) contents → EndsWhole (Some files) (of_two_files judging first second Of) contents status text h.part
+    after : (contents : List (List ℕ)) → AreFirstContents (Some files) (of_two_files judging first second Of) contents → EndsWhole (Some files) (of_two_files judging first second Of) contents status text h.part
         → ((one : List ℕ) × (held files first.name ≡ Some one) × (length one ≤ first.limit) × (judging.IsRefused one status text ⊎ ((other : List ℕ) × after_first judging Of one other status text))) ⊎ (status ≡ TooLong)
     after [] reading (inl row) = absurd row.0
     after (one ∷ []) reading (inl row) =
@@ -106,17 +106,17 @@ is_there : (o : Option (List ℕ)) (bytes : List ℕ) → o ≡ Some bytes → I
 is_there (Some found) bytes h = refl
 is_there None bytes h = absurd (cc h)
 
-module _ {C : Type 0} (judging : Judging C) (files : Files) (first second : File) (Of : C → Answers) (one : List ℕ) (known : held files first.name ≡ Some one) (short : length one ≤ first.limit) (stops : IsPassed judging one → ⊥) where
+module _ {C : Type 0} (judging : Judging C) (files : Files) (first second : File) (Of : C → Answers) (one : List ℕ) (known : held files first.name ≡ Some one) (short : length one ≤ first.limit) (stops : IsNotRefused judging one → ⊥) where
   -- what was read first is not passed
-  not_passed : (file : File) (bytes : List ℕ) → file ≡ first → ReadsWhole (Some files) file bytes → IsPassed judging bytes → ⊥
-  not_passed file bytes same gives passed = stops (subst (λ (b : List ℕ). IsPassed judging b) (the_one files first file one bytes known same gives) passed)
+  not_passed : (file : File) (bytes : List ℕ) → file ≡ first → ReadsWhole (Some files) file bytes → IsNotRefused judging bytes → ⊥
+  not_passed file bytes same gives passed = stops (subst (λ (b : List ℕ). IsNotRefused judging b) (the_one files first file one bytes known same gives) passed)
 
-  reached_first : (file : File) (contents : List (List ℕ)) → Reading (Some files) (of_two_files judging first second Of) contents → of_two_files judging first second Of contents (reads file) → file ≡ first
+  reached_first : (file : File) (contents : List (List ℕ)) → AreFirstContents (Some files) (of_two_files judging first second Of) contents → of_two_files judging first second Of contents (reads file) → file ≡ first
   reached_first file [] reading next = next
   reached_first file (bytes ∷ []) (read, same, gives, rest) next = absurd (not_passed read bytes same gives next.0)
   reached_first file (bytes ∷ other ∷ more) (read, same, gives, next) after = absurd (not_passed read bytes same gives next.1.0)
 
-  reply_first : (contents : List (List ℕ)) (status : Status) (text : List ℕ) (part : ℕ) → Reading (Some files) (of_two_files judging first second Of) contents
+  reply_first : (contents : List (List ℕ)) (status : Status) (text : List ℕ) (part : ℕ) → AreFirstContents (Some files) (of_two_files judging first second Of) contents
       → EndsWhole (Some files) (of_two_files judging first second Of) contents status text part → judging.IsRefused one status text
   reply_first [] status text part reading (inl h) = absurd h.0
   reply_first [] status text part reading (inr h) = absurd (not_both files first h.0 one (sym h.1) (known, short) h.2.0)

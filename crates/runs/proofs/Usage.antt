@@ -2,7 +2,7 @@
 use Rattle.std.proofs.Common.{◌≡◌, ◌<◌, ℕ, Bool, false, List, [], ◌∷◌, length, refl, sym, ◌∙◌, Option, arith}
 use Rattle.tml_io.specs.Files.{Files}
 use Rattle.runs.specs.EveryReply.{HasNext}
-use Rattle.runs.specs.OneReply.{Agree, HasOneText, is_broken_off}
+use Rattle.runs.specs.OneReply.{Agree, HasOneText, is_aborted}
 use Rattle.runs.specs.Replied.{IsReplyTo}
 use Rattle.runs.specs.Rows.{File, NeverFree, Next, answers, reads}
 use Rattle.runs.specs.Words.{usage_rows}
@@ -25,7 +25,7 @@ module _ (usage : List ℕ) where
   few [] file row = absurd row
   few (bytes ∷ rest) file row = absurd row
 
-  whole : (contents : List (List ℕ)) (status : Status) (text : List ℕ) → usage_rows usage contents (answers status text) → is_broken_off status ≡ false
+  whole : (contents : List (List ℕ)) (status : Status) (text : List ℕ) → usage_rows usage contents (answers status text) → is_aborted status ≡ false
   whole [] Usage text row = refl
   whole contents status text row = absurd row
 

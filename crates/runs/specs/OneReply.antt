@@ -3,7 +3,7 @@ use Rattle.std.specs.Prelude.{◌≡◌, Bool, true, false, ℕ, List, Some}
 use Rattle.tml_io.specs.Files.{Files}
 use Rattle.runs.specs.declared.status.Status.{Status}
 use Rattle.runs.specs.declared.status.Status.TheVariants.{ReadFault, NoMemory}
-use Rattle.runs.specs.Reading.{Reading}
+use Rattle.runs.specs.Reading.{AreFirstContents}
 use Rattle.runs.specs.Rows.{Next, Rows, reads, answers}
 use Rattle.runs.specs.Replies.{Replies}
 
@@ -23,15 +23,15 @@ HasOneText rows contents status = (text line : List ℕ) → rows contents (answ
 
 -- so it is after all contents that these files give
 abbrev pub HasOneTextOf : Files → Rows → Status → Type 0
-HasOneTextOf files rows status = (contents : List (List ℕ)) → Reading (Some files) rows contents → HasOneText rows contents status
+HasOneTextOf files rows status = (contents : List (List ℕ)) → AreFirstContents (Some files) rows contents → HasOneText rows contents status
 
 -- whether a reply with this status may come at any place, whatever the files hold
-abbrev pub is_broken_off : Status → Bool
-is_broken_off ReadFault = true
-is_broken_off NoMemory = true
-is_broken_off status = false
+abbrev pub is_aborted : Status → Bool
+is_aborted ReadFault = true
+is_aborted NoMemory = true
+is_aborted status = false
 
--- Over known files there is one reply that is not broken off: one status after one number of bytes, and where the contents determine the text one text.
+-- Over known files there is one reply that is not aborted: one status after one number of bytes, and where the contents determine the text one text.
 pub record OneReply (files : Files) (rows : Rows) (status other : Status) (text line : List ℕ) (taken count : ℕ) : Type 0 where
   pub one_status : status ≡ other
   pub one_count : taken ≡ count
@@ -39,6 +39,6 @@ pub record OneReply (files : Files) (rows : Rows) (status other : Status) (text 
 
 abbrev pub HasOneReply : Rows → Type 0
 HasOneReply rows = (files : Files) (status other : Status) (text line : List ℕ) (taken count : ℕ)
-    → is_broken_off status ≡ false → is_broken_off other ≡ false
+    → is_aborted status ≡ false → is_aborted other ≡ false
     → Replies (Some files) rows status text taken → Replies (Some files) rows other line count
     → OneReply files rows status other text line taken count

@@ -9,13 +9,13 @@ abbrev pub ReadsWhole : Option Files → File → List ℕ → Type 0
 ReadsWhole known file bytes = HasContents known file.name bytes × (length bytes ≤ file.limit)
 
 -- these are the contents of the first files that are read, in the order of reading
-abbrev pub Reading : Option Files → Rows → List (List ℕ) → Type 0
-Reading known rows [] = ⊤
-Reading known rows (bytes ∷ rest) = (file : File) × rows [] (reads file) × ReadsWhole known file bytes × Reading known (once_read bytes rows) rest
+abbrev pub AreFirstContents : Option Files → Rows → List (List ℕ) → Type 0
+AreFirstContents known rows [] = ⊤
+AreFirstContents known rows (bytes ∷ rest) = (file : File) × rows [] (reads file) × ReadsWhole known file bytes × AreFirstContents known (once_read bytes rows) rest
 
 -- it may come to reading this file
 abbrev pub Reached : Option Files → Rows → File → Type 0
-Reached known rows file = (contents : List (List ℕ)) × Reading known rows contents × rows contents (reads file)
+Reached known rows file = (contents : List (List ℕ)) × AreFirstContents known rows contents × rows contents (reads file)
 
 -- it comes to reading no file
 abbrev pub NoneReached : Option Files → Rows → Type 0
@@ -26,6 +26,6 @@ abbrev pub AllThere : Option Files → Rows → Type 0
 AllThere known rows = (file : File) → Reached known rows file → IsThere known file.name
 
 -- how many bytes some contents have
-abbrev pub total : List (List ℕ) → ℕ
-total [] = 0
-total (bytes ∷ rest) = length bytes + total rest
+abbrev pub total_length : List (List ℕ) → ℕ
+total_length [] = 0
+total_length (bytes ∷ rest) = length bytes + total_length rest

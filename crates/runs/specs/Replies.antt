@@ -5,7 +5,7 @@ use Rattle.tml_io.specs.Files.{Files, HasContents}
 use Rattle.runs.specs.declared.status.Status.{Status}
 use Rattle.runs.specs.declared.status.Status.TheVariants.{ReadFault, TooLong, NoMemory}
 use Rattle.runs.specs.Rows.{File, Rows, reads, answers}
-use Rattle.runs.specs.Reading.{Reading, total}
+use Rattle.runs.specs.Reading.{AreFirstContents, total_length}
 
 abbrev pub read_fault : List ℕ
 read_fault = codes "read fault\n"
@@ -34,7 +34,7 @@ RepliesAfter known rows contents status text part =
 -- the reply to a command, and how many bytes were taken of all its files
 pub record Replies (known : Option Files) (rows : Rows) (status : Status) (text : List ℕ) (taken : ℕ) : Type 0 where
   pub contents : List (List ℕ)
-  pub reading : Reading known rows contents
+  pub reading : AreFirstContents known rows contents
   pub part : ℕ
   pub ends : RepliesAfter known rows contents status text part
-  pub bytes : taken ≡ total contents + part
+  pub bytes : taken ≡ total_length contents + part

@@ -3,14 +3,14 @@ use Rattle.std.specs.Prelude.{ℕ}
 use Rattle.runs.specs.declared.status.Status.{Status}
 use Rattle.runs.specs.declared.status.Status.TheVariants.{Done, DocFault, Clash, Usage, ReadFault, WriteFault, NoMemory, EvidenceFault, UnknownName, TooLong}
 
-abbrev pub number_of : Status → ℕ
-number_of Done = 0
-number_of DocFault = 1
-number_of Clash = 2
-number_of Usage = 3
-number_of ReadFault = 4
-number_of WriteFault = 5
-number_of NoMemory = 6
-number_of EvidenceFault = 7
-number_of UnknownName = 8
-number_of TooLong = 9
+abbrev pub status_number : Status → ℕ
+status_number Done = 0
+status_number DocFault = 1
+status_number Clash = 2
+status_number Usage = 3
+status_number ReadFault = 4
+status_number WriteFault = 5
+status_number NoMemory = 6
+status_number EvidenceFault = 7
+status_number UnknownName = 8
+status_number TooLong = 9

@@ -43,6 +43,6 @@ reply_of (Ok answer) = replies.Answered answer
 reply_of (Err e) = replies.NoMemory
 
 -- a file was read whole, or the reply says why it was not, with the number of its bytes that were taken
-abbrev pub HasRead : Option Files → File → Result (List ℕ) Reply → ℕ → Type 0
-HasRead known file (Ok bytes) taken = ReadsWhole known file bytes × (taken ≡ length bytes)
-HasRead known file (Err reply) taken = CannotRead known file (status_of reply) (text_of reply) taken
+abbrev pub HasReadFile : Option Files → File → Result (List ℕ) Reply → ℕ → Type 0
+HasReadFile known file (Ok bytes) taken = ReadsWhole known file bytes × (taken ≡ length bytes)
+HasReadFile known file (Err reply) taken = CannotRead known file (status_of reply) (text_of reply) taken

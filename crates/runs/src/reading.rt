@@ -4,7 +4,7 @@ ghost use Rattle.std.specs.declared.result.Result.{Result};
 ghost use Rattle.tml_io.specs.Faults.{CallsFollow, HasRisen, RisesAtMost};
 ghost use Rattle.tml_io.specs.Files.{IsThere, CountsTaken};
 ghost use Rattle.runs.specs.Roles.{IsRole, file_of};
-ghost use Rattle.runs.specs.View.{HasRead};
+ghost use Rattle.runs.specs.View.{HasReadFile};
 
 use crate::reply::Reply;
 use crate::role::Role;
@@ -24,7 +24,7 @@ pub fn read<I: Inputs>(
 ) -> Result<List<u8>, Reply>
     requires { IsRole role }
     ensures gives { CountsTaken (I.given inputs.old) (I.given inputs.new)
-        (HasRead (I.files inputs.old) (file_of role name.now) result) }
+        (HasReadFile (I.files inputs.old) (file_of role name.now) result) }
     ensures fault { result ≡ Result.Err Reply.ReadFault → HasRisen (I.faults inputs.old) (I.faults inputs.new) }
     ensures no_fault { I.sound inputs.old ≡ true → IsThere (I.files inputs.old) name.now
         → I.faults inputs.new ≡ I.faults inputs.old }

@@ -1,5 +1,5 @@
 -- A document and a key have one answer: one status, and one text, but for which clash of the document is printed.
-use Rattle.std.proofs.Common.{◌≡◌, ℕ, List, ◌++◌, codes, false, refl, sym, ap, ◌∙◌, inl, inr}
+use Rattle.std.proofs.Common.{◌≡◌, ◌⊎◌, ℕ, List, ◌++◌, codes, refl, sym, ap, ◌∙◌, inl, inr}
 use Rattle.std.specs.Prelude.{⊤}
 use Rattle.answers.specs.Lines.{fault_line}
 use Rattle.answers.proofs.Answered.{judged_answered}
@@ -15,10 +15,9 @@ use Rattle.tml_accept.specs.Acceptance.{FirstFault, Says}
 use Rattle.tml_accept.proofs.Judged.{every_document}
 use Rattle.tml_accept.proofs.Phases.{accepted_or_fault, one_document, one_fault}
 use Rattle.tml_refs.specs.Documents.{PlainDocument}
-use Rattle.runs.specs.OneReply.{is_broken_off}
 use Rattle.runs.specs.declared.status.Status.{Status}
 use Rattle.runs.specs.declared.status.Status.TheVariants.{Clash, DocFault, Done}
-use Rattle.runs.proofs.Answering.{Answer, AreAnswered, HasAnswer, IsAnswered, by_the_one, left_only, one_answer, right_only}
+use Rattle.runs.proofs.Answering.{Answer, AreAnswered, HasAnswer, IsAnswered, by_the_one, left_only, one_answer, one_of_two, right_only}
 use Rattle.tml_score.specs.Scores.{Annotation, IsSound}
 use Rattle.tml_score.proofs.Counted.{every_score, one_score}
 use Rattle.score_answers.specs.Score.{HasKeyLine, IsFreeScore, OfAnnotations, OfKey, OfScore, ScoreIsFree, key_clash, key_file, score_rows, scores_text}
@@ -26,27 +25,14 @@ use Rattle.score_answers.specs.Score.{HasKeyLine, IsFreeScore, OfAnnotations, Of
 -- ---- by the nets of both
 
 module _ (doc key : Annotation) where
-  status_of : (status other : Status) (text line : List ℕ) → OfAnnotations doc key status text → OfAnnotations doc key other line → status ≡ other
-  status_of Done Done text line h k = refl
-  status_of Done Clash text line h k = absurd (k.0 h.0.0 h.0.1)
-  status_of Clash Done text line h k = absurd (h.0 k.0.0 k.0.1)
-  status_of Clash Clash text line h k = refl
-  status_of Done other text line h k = absurd k
-  status_of Clash other text line h k = absurd k
-  status_of status other text line h k = absurd h
-
-  whole_of : (status : Status) (text : List ℕ) → OfAnnotations doc key status text → is_broken_off status ≡ false
-  whole_of Done text h = refl
-  whole_of Clash text h = refl
-  whole_of status text h = absurd h
-
-  text_of : (status : Status) (text line : List ℕ) → OfAnnotations doc key status text → OfAnnotations doc key status line → text ≡ line
-  text_of Done text line h k = h.3 ∙ ap scores_text (one_score doc key h.1 k.1 h.2 k.2) ∙ sym k.3
-  text_of Clash text line h k = h.1 ∙ sym k.1
-  text_of status text line h k = absurd h
+  either : (status : Status) (text : List ℕ) → OfAnnotations doc key status text → (status ≡ Done) ⊎ (status ≡ Clash)
+  either Done text h = inl refl
+  either Clash text h = inr refl
+  either status text h = absurd h
 
   of_annotations : (IsFree : Status → Type 0) → HasAnswer (OfAnnotations doc key) → IsAnswered ⊤ (OfAnnotations doc key) IsFree
-  of_annotations IsFree there = record { some = λ given. there; one_status = status_of; whole = whole_of; one_text = λ status text line determined. text_of status text line }
+  of_annotations IsFree there = one_of_two (OfAnnotations doc key) IsFree Done Clash refl refl either (λ text line h k. k.0 h.0.0 h.0.1)
+      (λ text line determined h k. h.3 ∙ ap scores_text (one_score doc key h.1 k.1 h.2 k.2) ∙ sym k.3) (λ text line determined h k. h.1 ∙ sym k.1) (λ given. there)
 
 -- ---- by what the key says
 

@@ -11,12 +11,12 @@ use Rattle.tml_score.specs.Reduced.{IsReduced}
 use Rattle.score_answers.specs.Counts.{of_line}
 
 -- the line of the link of this number
-abbrev pub line_at : PlainDocument → ℕ → List ℕ
-line_at contents k = elim (slice_get contents.links k) [ None ↦ [] | Some link ↦ link_line contents.intervals k link ]
+abbrev pub reduced_line : PlainDocument → ℕ → List ℕ
+reduced_line contents k = elim (slice_get contents.links k) [ None ↦ [] | Some link ↦ link_line contents.intervals k link ]
 
 -- how many links of a document stay, of how many, and the line of each
 abbrev pub reduced_text : PlainDocument → List ℕ → List ℕ
-reduced_text contents links = of_line (codes "reduced ") (length links) (length contents.links) ++ flat_map (line_at contents) links
+reduced_text contents links = of_line (codes "reduced ") (length links) (length contents.links) ++ flat_map (reduced_line contents) links
 
 -- `reduce` prints the links that stay
 abbrev pub OfReduce : NetAnswers

@@ -1,7 +1,7 @@
 -- What is printed is confirmed.
 use Rattle.std.proofs.Common.{◌≡◌, ◌≤◌, ℕ, List, length, refl, Some, inl, inr}
 use Rattle.answers.specs.Documents.{doc_file, of_contents}
-use Rattle.evidence_answers.specs.ConfirmTexts.{claim_line}
+use Rattle.evidence_answers.specs.ConfirmTexts.{seconds_claim_line}
 use Rattle.evidence_answers.specs.Confirmed.{OfConfirm, OfText, seconds_file}
 use Rattle.evidence_answers.proofs.Accepting.{accepted}
 use Rattle.evidence_answers.proofs.ConfirmAnswered.{confirm_answered}
@@ -18,13 +18,13 @@ use Rattle.runs.specs.declared.status.Status.{Status}
 use Rattle.runs.specs.declared.status.Status.TheVariants.{Clash, Done}
 use Rattle.runs.proofs.OneFile.{answered_or_long}
 use Rattle.seconds_answers.specs.Laws.{PrintsSeconds, SecondsAreConfirmed}
-use Rattle.seconds_answers.specs.Placed.{OfSeconds, OfTimed, seconds_rows}
+use Rattle.seconds_answers.specs.Seconds.{OfSeconds, OfTimed, seconds_rows}
 use Rattle.seconds_answers.proofs.Sizes.{printed_size}
 
 -- a text that shows a placing or a cycle is answered by what it shows
 confirmed : (timed : PlainTimed) (status : Status) (text : List ℕ) → OfTimed timed status text → (line : List ℕ) × OfText timed text Done line
-confirmed timed Done text h = (claim_line (Placed h.0), (Placed h.0, h.2, h.1, refl))
-confirmed timed Clash text h = (claim_line (Cycle h.1), (Cycle h.1, h.3, h.2.0, refl))
+confirmed timed Done text h = (seconds_claim_line (Placed h.0), (Placed h.0, h.2, h.1, refl))
+confirmed timed Clash text h = (seconds_claim_line (Cycle h.1), (Cycle h.1, h.3, h.2.0, refl))
 confirmed timed status text h = absurd h
 
 -- an accepted document in a file, with a text that shows a placing or a cycle of it

@@ -9,15 +9,15 @@ use Rattle.std.proofs.lemmas.List.Folds.{concat-append}
 use Rattle.line_texts.specs.Numbers.{IsNumber, one_number}
 use Rattle.line_texts.specs.Lines.{last_line}
 use Rattle.net_core.specs.Limits.{max_evidence}
-use Rattle.seconds_core.specs.Evidence.{PlainEvidence, Placed, Cycle}
+use Rattle.seconds_core.specs.Evidence.{PlainSeconds, Placed, Cycle}
 use Rattle.seconds_core.specs.Timed.{IsTimed, PlainTimed}
 use Rattle.seconds_core.specs.declared.line.Line.{Line}
 use Rattle.seconds_core.specs.declared.line.Line.TheVariants.{Span, Via, Lower, Upper, Least, Most}
-use Rattle.seconds_format.specs.Texts.{HasNumbers, IsLong, IsPair, IsText, at_line, body_lines, cycle_line, first_line, pairs_of, text_lines}
+use Rattle.seconds_format.specs.Texts.{HasLineNumbers, IsLong, IsLongPair, IsSecondsText, seconds_at_line, seconds_body_lines, cycle_line, seconds_first_line, pairs_of_seconds, seconds_text_lines}
 use Rattle.seconds_format.proofs.PairLaws.{long_again, pairs_length}
 use Rattle.runs.specs.declared.status.Status.{Status}
 use Rattle.runs.specs.declared.status.Status.TheVariants.{Clash, Done}
-use Rattle.seconds_answers.specs.Placed.{OfTimed}
+use Rattle.seconds_answers.specs.Seconds.{OfTimed}
 
 -- ---- lines
 
@@ -30,7 +30,7 @@ one_size keyword n small =
     let all : length (one_number keyword n) ≡ length (keyword ++ decimal n) + 1 = length-append (keyword ++ decimal n) (codes "\n") in
     omega (arith, number_size n small, all, length-append keyword (decimal n))
 
-cycle_line_size : (line : Line) → HasNumbers line → length (cycle_line line) ≤ 26
+cycle_line_size : (line : Line) → HasLineNumbers line → length (cycle_line line) ≤ 26
 cycle_line_size (Span i) small = omega (arith, one_size (codes "span ") i small)
 cycle_line_size (Via link atom) small =
     let begun = codes "via " ++ decimal link in
@@ -46,11 +46,11 @@ second_size : (second : ℤ) → IsLong second → length (signed_decimal second
 second_size (pos n) fits = let small : n < 2 ^ 63 = fits.sfits in omega (arith, length-decimal-le 19 n (omega arith) (omega (arith, small)) (omega (arith, small)))
 second_size (negsuc n) fits = let small : n < 2 ^ 63 = fits.sfits in omega (arith, length-decimal-le 19 (suc n) (omega arith) (omega (arith, small)) (omega (arith, small)))
 
-at_line_size : (pair : ℤ × ℤ) → IsPair pair → length (at_line pair) ≤ 45
+at_line_size : (pair : ℤ × ℤ) → IsLongPair pair → length (seconds_at_line pair) ≤ 45
 at_line_size pair long =
     let first = codes "at " ++ signed_decimal pair.0 in
     let second = first ++ codes " " ++ signed_decimal pair.1 in
-    let all : length (at_line pair) ≡ length second + 1 = length-append second (codes "\n") in
+    let all : length (seconds_at_line pair) ≡ length second + 1 = length-append second (codes "\n") in
     let last : length second ≡ length (first ++ codes " ") + length (signed_decimal pair.1) = length-append (first ++ codes " ") (signed_decimal pair.1) in
     let spaced : length (first ++ codes " ") ≡ length first + 1 = length-append first (codes " ") in
     let begun : length first ≡ 3 + length (signed_decimal pair.0) = length-append (codes "at ") (signed_decimal pair.0) in
@@ -64,28 +64,28 @@ lines_size IsFit line_for width narrow (x ∷ xs) fit = omega (arith, narrow x f
 -- ---- the text
 
 -- the first line and the last one besides the body
-text_size : (e : PlainEvidence) (text : List ℕ) (size : ℕ) → IsText e text → length (concat (body_lines e)) ≤ size → length text ≤ size + 18
+text_size : (e : PlainSeconds) (text : List ℕ) (size : ℕ) → IsSecondsText e text → length (concat (seconds_body_lines e)) ≤ size → length text ≤ size + 18
 text_size e text size is body =
-    let all : length text ≡ length (concat (text_lines e)) = ap (λ (bytes : List ℕ). length bytes) is.1 in
-    let fourteen : length first_line ≡ 14 = refl in
+    let all : length text ≡ length (concat (seconds_text_lines e)) = ap (λ (bytes : List ℕ). length bytes) is.1 in
+    let fourteen : length seconds_first_line ≡ 14 = refl in
     let four : length (concat (last_line ∷ [])) ≡ 4 = refl in
-    let after : length (concat (body_lines e ++ last_line ∷ [])) ≡ length (concat (body_lines e) ++ concat (last_line ∷ [])) = ap (λ (bytes : List ℕ). length bytes) (concat-append (body_lines e) (last_line ∷ [])) in
-    omega (arith, all, length-append first_line (concat (body_lines e ++ last_line ∷ [])), fourteen, after, length-append (concat (body_lines e)) (concat (last_line ∷ [])), four, body)
+    let after : length (concat (seconds_body_lines e ++ last_line ∷ [])) ≡ length (concat (seconds_body_lines e) ++ concat (last_line ∷ [])) = ap (λ (bytes : List ℕ). length bytes) (concat-append (seconds_body_lines e) (last_line ∷ [])) in
+    omega (arith, all, length-append seconds_first_line (concat (seconds_body_lines e ++ last_line ∷ [])), fourteen, after, length-append (concat (seconds_body_lines e)) (concat (last_line ∷ [])), four, body)
 
-placing_size : (seconds : List ℤ) (text : List ℕ) → IsText (Placed seconds) text → length seconds ≤ 2048 → length text ≤ max_evidence
+placing_size : (seconds : List ℤ) (text : List ℕ) → IsSecondsText (Placed seconds) text → length seconds ≤ 2048 → length text ≤ max_evidence
 placing_size seconds text is few =
-    let pairs = pairs_of seconds in
+    let pairs = pairs_of_seconds seconds in
     let count = pairs_length seconds is.0.0.0 in
-    let lines : length (concat (map at_line pairs)) ≤ 45 * length pairs = lines_size IsPair at_line 45 at_line_size pairs (long_again seconds is.0.1) in
+    let lines : length (concat (map seconds_at_line pairs)) ≤ 45 * length pairs = lines_size IsLongPair seconds_at_line 45 at_line_size pairs (long_again seconds is.0.1) in
     let head : length (one_number (codes "placing ") (length pairs)) ≤ 19 = omega (arith, one_size (codes "placing ") (length pairs) (omega (arith, count, few))) in
-    let body : length (concat (body_lines (Placed seconds))) ≤ 46099 = omega (arith, length-append (one_number (codes "placing ") (length pairs)) (concat (map at_line pairs)), head, lines, count, few) in
+    let body : length (concat (seconds_body_lines (Placed seconds))) ≤ 46099 = omega (arith, length-append (one_number (codes "placing ") (length pairs)) (concat (map seconds_at_line pairs)), head, lines, count, few) in
     omega (arith, text_size (Placed seconds) text 46099 is body)
 
-cycle_size : (lines : List Line) (text : List ℕ) → IsText (Cycle lines) text → length lines ≤ 2049 → length text ≤ max_evidence
+cycle_size : (lines : List Line) (text : List ℕ) → IsSecondsText (Cycle lines) text → length lines ≤ 2049 → length text ≤ max_evidence
 cycle_size lines text is few =
-    let each_line : length (concat (map cycle_line lines)) ≤ 26 * length lines = lines_size HasNumbers cycle_line 26 cycle_line_size lines (recursion_from_All HasNumbers lines is.0.0) in
+    let each_line : length (concat (map cycle_line lines)) ≤ 26 * length lines = lines_size HasLineNumbers cycle_line 26 cycle_line_size lines (recursion_from_All HasLineNumbers lines is.0.0) in
     let head : length (one_number (codes "cycle ") (length lines)) ≤ 17 = omega (arith, one_size (codes "cycle ") (length lines) is.0.1) in
-    let body : length (concat (body_lines (Cycle lines))) ≤ 53291 = omega (arith, length-append (one_number (codes "cycle ") (length lines)) (concat (map cycle_line lines)), head, each_line, few) in
+    let body : length (concat (seconds_body_lines (Cycle lines))) ≤ 53291 = omega (arith, length-append (one_number (codes "cycle ") (length lines)) (concat (map cycle_line lines)), head, each_line, few) in
     omega (arith, text_size (Cycle lines) text 53291 is body)
 
 -- what is printed of a net can be read again

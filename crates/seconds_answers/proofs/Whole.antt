@@ -22,15 +22,15 @@ use Rattle.seconds_core.proofs.Sums.{negative_is_unplaced}
 use Rattle.seconds_core.specs.declared.line.Constraint.{Constraint}
 use Rattle.seconds_core.specs.declared.line.Line.{Line}
 use Rattle.seconds_core.specs.declared.line.Line.TheVariants.{Span, Via, Lower, Upper, Least, Most}
-use Rattle.seconds_format.specs.Texts.{HasNumbers, IsLong, text_lines}
+use Rattle.seconds_format.specs.Texts.{HasLineNumbers, IsLong, seconds_text_lines}
 use Rattle.runs.specs.declared.status.Status.{Status}
 use Rattle.runs.specs.declared.status.Status.TheVariants.{Clash, Done}
 use Rattle.seconds_search.proofs.EveryNet.{every_net_is_decided}
 use Rattle.seconds_search.specs.Decided.{IsFar, IsShortCycle}
-use Rattle.seconds_answers.specs.Placed.{OfTimed, ShowsCycle, ShowsPlacing}
+use Rattle.seconds_answers.specs.Seconds.{OfTimed, ShowsCycle, ShowsPlacing}
 
 -- the numbers of a line that names a constraint can stand in a text
-named_numbers : (timed : PlainTimed) (line : Line) (c : Constraint) → IsTimed timed → constraint_of timed line ≡ Some c → HasNumbers line
+named_numbers : (timed : PlainTimed) (line : Line) (c : Constraint) → IsTimed timed → constraint_of timed line ≡ Some c → HasLineNumbers line
 named_numbers timed (Span i) c is e =
     let (lt, same) = tested (nat_lt i (intervals timed.net)) (at_most (2 * i + 1) (2 * i) (neg_ℤ (pos 1))) c e in
     let net = is.net in
@@ -58,7 +58,7 @@ named_numbers timed (Most i) c is e =
     let net = is.net in
     omega (arith, within (limits_at timed i).most n i (intervals timed.net) at (λ le. ap (λ l. l.most) (limits_past timed i is le)), net.few_intervals)
 
-joined_numbers : (timed : PlainTimed) → IsTimed timed → (lines : List Line) (x y : ℕ) → LeadFromTo timed lines x y → AllByRecursion HasNumbers lines
+joined_numbers : (timed : PlainTimed) → IsTimed timed → (lines : List Line) (x y : ℕ) → LeadFromTo timed lines x y → AllByRecursion HasLineNumbers lines
 joined_numbers timed is [] x y joined = tt
 joined_numbers timed is (line ∷ lines) x y (c, named, from, rest) = (named_numbers timed line c is named, joined_numbers timed is lines c.to y rest)
 
@@ -70,18 +70,18 @@ placing_text : (timed : PlainTimed) (seconds : List ℤ) → IsTimed timed → I
 placing_text timed seconds is placed far =
     let net = is.net in
     let size = placed.size in
-    (concat (text_lines (Placed seconds)), (seconds, placed, (((omega (arith, size), omega (arith, size, net.few_intervals)), All-weaker IsFar IsLong far_is_long seconds far), refl)))
+    (concat (seconds_text_lines (Placed seconds)), (seconds, placed, (((omega (arith, size), omega (arith, size, net.few_intervals)), All-weaker IsFar IsLong far_is_long seconds far), refl)))
 
 cycle_text : (timed : PlainTimed) (lines : List Line) → IsTimed timed → IsShortCycle timed lines → (text : List ℕ) × ShowsCycle timed text
 cycle_text timed lines is short =
     let net = is.net in
     let ((x, joined, below), few) = short in (
-      concat (text_lines (Cycle lines)),
+      concat (seconds_text_lines (Cycle lines)),
       (
         (λ has. negative_is_unplaced timed lines is (x, joined, below) has),
         lines,
         short,
-        ((All-from_recursion HasNumbers lines (joined_numbers timed is lines x x joined), omega (arith, few, net.few_intervals)), refl),
+        ((All-from_recursion HasLineNumbers lines (joined_numbers timed is lines x x joined), omega (arith, few, net.few_intervals)), refl),
       ),
     )
 

@@ -6,7 +6,7 @@ use Rattle.tml_io.specs.Files.{Files, held}
 use Rattle.runs.specs.Replies.{Replies}
 use Rattle.runs.specs.declared.status.Status.{Status}
 use Rattle.runs.specs.declared.status.Status.TheVariants.{Clash, Done}
-use Rattle.seconds_answers.specs.Placed.{seconds_rows}
+use Rattle.seconds_answers.specs.Seconds.{seconds_rows}
 
 -- a placing is printed, or a cycle
 abbrev pub PrintsSeconds : Status → Type 0

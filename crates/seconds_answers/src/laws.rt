@@ -2,7 +2,7 @@
 ghost use Rattle.seconds_answers.specs.Laws.{SecondsAreConfirmed};
 
 /// What `seconds` prints of a document, `confirm` accepts over the same document: Done is a reply, and but for one that is
-/// broken off the only one.
+/// aborted the only one.
 pub fn seconds_are_confirmed()
     ensures { SecondsAreConfirmed }
 {}

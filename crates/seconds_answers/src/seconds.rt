@@ -1,6 +1,6 @@
 //! The command `seconds`: a placing of a document in whole seconds, or a cycle that shows that there is none.
 ghost use Rattle.seconds_core.specs.View.{evidence_of};
-ghost use Rattle.seconds_format.specs.Texts.{IsText};
+ghost use Rattle.seconds_format.specs.Texts.{IsSecondsText};
 ghost use Rattle.std.specs.Prelude.{IfOk, ◌≡◌};
 
 use answers::DocumentQuery;
@@ -15,7 +15,7 @@ use tml_seconds::{PlaceFault, SecondsEvidence, place, timed_of, write_seconds};
 pub struct Seconds;
 
 impl DocumentQuery for Seconds {
-    ghost use Rattle.seconds_answers.specs.Placed.{OfSeconds};
+    ghost use Rattle.seconds_answers.specs.Seconds.{OfSeconds};
 
     ghost says = { λ _. OfSeconds };
 
@@ -39,7 +39,7 @@ fn text_answer(
     evidence: &SecondsEvidence,
 ) -> Result<Answer, AllocError>
     ensures finding { IfOk result (λ answer. answer.finding ≡ finding) }
-    ensures text { IfOk result (λ answer. IsText (evidence_of evidence.now) answer.text.items) }
+    ensures text { IfOk result (λ answer. IsSecondsText (evidence_of evidence.now) answer.text.items) }
 {
     match write_seconds(alloc, evidence) {
         Ok(text) => Ok(Answer {

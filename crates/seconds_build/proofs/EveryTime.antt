@@ -16,7 +16,7 @@ use Rattle.timex_value.specs.declared.value.Value.{Value}
 use Rattle.timex_value.specs.declared.value.Value.TheVariants as ValueOf
 use Rattle.tml_refs.specs.Documents.{PlainInterval, instance, time}
 use Rattle.seconds_build.specs.Built.{EveryTimed, interval_limits}
-use Rattle.seconds_build.specs.Lengths.{limits_by, limits_of, no_limits, seconds_of, ◌>>=◌}
+use Rattle.seconds_build.specs.Lengths.{limits_by, limits_of, no_limits, length_seconds, ◌>>=◌}
 use Rattle.seconds_build.proofs.Nets.{is_timed}
 
 lengths_by : (modifier : Option Modifier) (n : ℕ) → n < max_length → AreLengths (limits_by modifier (pos n))
@@ -40,7 +40,7 @@ lengths_below modifier (Some n) = elim (nat_lt n max_length) as (λ b. nat_lt n 
 ] refl
 
 lengths_of : (kind : TimexKind) (modifier : Option Modifier) (value : Option Value) → AreLengths (limits_of kind modifier value)
-lengths_of KindOf.Duration modifier (Some (ValueOf.Duration l)) = lengths_below modifier (seconds_of l)
+lengths_of KindOf.Duration modifier (Some (ValueOf.Duration l)) = lengths_below modifier (length_seconds l)
 lengths_of kind modifier value = (tt, tt)
 
 interval_lengths : (v : PlainInterval) → AreLengths (interval_limits v)

@@ -7,11 +7,11 @@ use Rattle.seconds_core.specs.Timed.{max_length}
 use Rattle.timex_value.specs.Durations.{CountThen, CountsThen, ClockText, is_present, has_clock}
 use Rattle.timex_value.specs.declared.length.Count.{Count}
 use Rattle.timex_value.specs.declared.length.Count.TheVariants.{Absent, Number, Unknown}
-use Rattle.seconds_build.specs.Lengths.{DurationsAreBelowTheLimit, number_of, seconds_in}
+use Rattle.seconds_build.specs.Lengths.{DurationsAreBelowTheLimit, count_number, seconds_in}
 
 -- a number has nine digits at most
 abbrev HasFewDigits : Count → Type 0
-HasFewDigits count = IfSome (number_of count) (λ n. n < 1_000_000_000)
+HasFewDigits count = IfSome (count_number count) (λ n. n < 1_000_000_000)
 
 abbrev HaveFewDigits : List Count → Type 0
 HaveFewDigits [] = Unit {0}
@@ -56,11 +56,11 @@ IsBelow n = n < max_length
 
 seconds_below : (w d h m s : Count) → HaveFewDigits (w ∷ d ∷ h ∷ m ∷ s ∷ []) → IfSome (seconds_in w d h m s) (λ n. n < max_length)
 seconds_below w d h m s few =
-    then_if IsBelow (number_of w) _ few.0 (λ a below_a.
-    then_if IsBelow (number_of d) _ few.1.0 (λ b below_b.
-    then_if IsBelow (number_of h) _ few.1.1.0 (λ c below_c.
-    then_if IsBelow (number_of m) _ few.1.1.1.0 (λ e below_e.
-    then_if IsBelow (number_of s) _ few.1.1.1.1.0 (λ f below_f. omega arith)))))
+    then_if IsBelow (count_number w) _ few.0 (λ a below_a.
+    then_if IsBelow (count_number d) _ few.1.0 (λ b below_b.
+    then_if IsBelow (count_number h) _ few.1.1.0 (λ c below_c.
+    then_if IsBelow (count_number m) _ few.1.1.1.0 (λ e below_e.
+    then_if IsBelow (count_number s) _ few.1.1.1.1.0 (λ f below_f. omega arith)))))
 
 pub durations_are_below : DurationsAreBelowTheLimit
 durations_are_below text l h =

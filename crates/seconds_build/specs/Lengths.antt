@@ -19,31 +19,31 @@ abbrev pub ◌>>=◌ : {A B : Type 0} → Option A → (A → Option B) → Opti
 o >>= f = option_and_then f o
 
 -- how many there are of a unit: none where it is not written, and unknown where an X is
-abbrev pub number_of : Count → Option ℕ
-number_of Absent = Some 0
-number_of (Number n) = Some n
-number_of Unknown = None
+abbrev pub count_number : Count → Option ℕ
+count_number Absent = Some 0
+count_number (Number n) = Some n
+count_number Unknown = None
 
 -- the seconds of weeks, days, hours, minutes and seconds, where each of them is known
 abbrev pub seconds_in : Count → Count → Count → Count → Count → Option ℕ
 seconds_in weeks days hours minutes seconds = do
-  w ← number_of weeks
-  d ← number_of days
-  h ← number_of hours
-  m ← number_of minutes
-  s ← number_of seconds
+  w ← count_number weeks
+  d ← count_number days
+  h ← count_number hours
+  m ← count_number minutes
+  s ← count_number seconds
   Some (604_800 * w + 86_400 * d + 3_600 * h + 60 * m + s)
 
 -- the seconds of a duration, where no years and no months are written: not all of these last the same
-abbrev pub seconds_of : Length → Option ℕ
-seconds_of l =
+abbrev pub length_seconds : Length → Option ℕ
+length_seconds l =
     if is_present l.years || is_present l.months then None
     else seconds_in l.weeks l.days l.hours l.minutes l.seconds
 
 -- the length of a duration: its seconds, where they are below the limit
 abbrev pub length_of : Length → Option ℕ
 length_of l = do
-  n ← seconds_of l
+  n ← length_seconds l
   if nat_lt n max_length then Some n else None
 
 abbrev pub no_limits : Limits
@@ -72,4 +72,4 @@ limits_of kind modifier value = no_limits
 
 -- the law: the seconds of a duration that a text spells are below the limit
 abbrev pub DurationsAreBelowTheLimit : Type 0
-DurationsAreBelowTheLimit = (text : List ℕ) (l : Length) → SpellsLength l text → IfSome (seconds_of l) (λ n. n < max_length)
+DurationsAreBelowTheLimit = (text : List ℕ) (l : Length) → SpellsLength l text → IfSome (length_seconds l) (λ n. n < max_length)

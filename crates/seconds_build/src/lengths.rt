@@ -28,7 +28,7 @@ fn is_present(count: Count) -> bool
 
 /// How many there are of a unit: none where it is not written, and unknown where an `X` is.
 fn number_of(count: Count) -> Option<u64>
-    ensures number { result ≡ spec.number_of count }
+    ensures number { result ≡ spec.count_number count }
     ensures bound { IfSome result (λ n. n < 2 ^ 32) }
 {
     match count {
@@ -40,7 +40,7 @@ fn number_of(count: Count) -> Option<u64>
 
 /// The seconds of a duration, where no years and no months are written.
 fn seconds_of(length: &Length) -> Option<u64>
-    ensures { result ≡ spec.seconds_of length.now }
+    ensures { result ≡ spec.length_seconds length.now }
 {
     if is_present(length.years) || is_present(length.months) {
         return None;

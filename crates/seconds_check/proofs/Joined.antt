@@ -8,7 +8,7 @@ use Rattle.seconds_core.specs.declared.line.Line.{Line}
 use Rattle.seconds_core.specs.Constraints.{constraint_of}
 use Rattle.seconds_core.specs.Cycles.{LeadFromTo, sum_of, weight_in}
 use Rattle.seconds_core.specs.Timed.{PlainTimed}
-use Rattle.seconds_check.specs.Refusals.{GoFrom, GoOn}
+use Rattle.seconds_check.specs.Refusals.{LinesGoFrom, LinesGoOn}
 
 module _ (timed : PlainTimed) where
   -- one line more
@@ -42,7 +42,7 @@ module _ (timed : PlainTimed) where
       same ∙ one_end (line ∷ lines) x x z h (subst (λ (w : ℕ). LeadFromTo timed (line ∷ lines) w z) same k)
 
   -- the first lines of joined ones are joined
-  pub joined_take : (lines : List Line) (x y k : ℕ) → LeadFromTo timed lines x y → GoFrom timed x (take k lines)
+  pub joined_take : (lines : List Line) (x y k : ℕ) → LeadFromTo timed lines x y → LinesGoFrom timed x (take k lines)
   joined_take lines x y zero joined = (x, refl)
   joined_take [] x y (suc k) joined = (x, refl)
   joined_take (line ∷ lines) x y (suc k) joined =
@@ -57,11 +57,11 @@ module _ (timed : PlainTimed) where
       (rest.0, (joined.0, joined.1, joined.2, rest.1), rest.2)
 
   -- joined lines go on to each place before their end
-  pub goes_whole : (lines : List Line) (x y k : ℕ) → LeadFromTo timed lines x y → GoOn timed (take k lines)
+  pub goes_whole : (lines : List Line) (x y k : ℕ) → LeadFromTo timed lines x y → LinesGoOn timed (take k lines)
   goes_whole lines x y k joined = let part = joined_take lines x y k joined in (x, (part.0, part.1))
 
   -- lines that go on to some place do so to each place before it
-  pub goes_less : (lines : List Line) (j k : ℕ) → j ≤ k → GoOn timed (take k lines) → GoOn timed (take j lines)
+  pub goes_less : (lines : List Line) (j k : ℕ) → j ≤ k → LinesGoOn timed (take k lines) → LinesGoOn timed (take j lines)
   goes_less lines j k le goes =
       let less = goes_whole (take k lines) goes.0 goes.1.0 j goes.1.1 in
-      subst (GoOn timed) (take-take j k lines le) less
+      subst (LinesGoOn timed) (take-take j k lines le) less

@@ -8,11 +8,11 @@ use Rattle.net_core.proofs.FirstLaws.{first_or_none}
 use Rattle.seconds_core.specs.declared.line.Line.{Line}
 use Rattle.seconds_core.specs.Cycles.{LeadFromTo, IsNegative, sum_of}
 use Rattle.seconds_core.specs.Evidence.{Placed, Cycle}
-use Rattle.seconds_core.specs.Placed.{IsPlaced, KeepsBounds, KeepsLimits, KeepsLink, StartsFirst, lasts, second_at}
+use Rattle.seconds_core.specs.Placed.{IsPlaced, KeepsBounds, KeepsLimits, KeepsLinkInSeconds, StartsFirstInSeconds, lasts, second_at}
 use Rattle.seconds_core.specs.Timed.{PlainTimed, limits_at, lower_second, upper_second}
 use Rattle.seconds_check.specs.declared.refusal.SecondsReason.{SecondsReason}
 use Rattle.seconds_check.specs.declared.refusal.SecondsReason.TheVariants.{Size, Order, Link, Bound, Length, Step, End, Sum}
-use Rattle.seconds_check.specs.Refusals.{ConfirmedOrRefused, GoOn, HasSize, IsMisplaced, IsNoCycle}
+use Rattle.seconds_check.specs.Refusals.{ConfirmedOrRefused, LinesGoOn, HasSecondsSize, IsMisplaced, IsNoCycle}
 use Rattle.seconds_check.proofs.Deciding.{between, go_on, in_order, keeps_link}
 
 -- something holds, or it does not for a reason
@@ -21,10 +21,10 @@ OrReason Good Bad = Good ⊎ ((reason : SecondsReason) × Bad reason)
 
 module _ (timed : PlainTimed) where
   -- seconds, where there are two for each interval
-  sized : (seconds : List ℤ) → HasSize timed seconds → OrReason (IsPlaced timed seconds) (IsMisplaced timed seconds)
-  sized seconds size = elim (first_or_none (intervals timed.net) (StartsFirst seconds) (λ i. in_order true (second_at seconds (2 * i)) (second_at seconds (2 * i + 1)))) [
+  sized : (seconds : List ℤ) → HasSecondsSize timed seconds → OrReason (IsPlaced timed seconds) (IsMisplaced timed seconds)
+  sized seconds size = elim (first_or_none (intervals timed.net) (StartsFirstInSeconds seconds) (λ i. in_order true (second_at seconds (2 * i)) (second_at seconds (2 * i + 1)))) [
     | inr first ↦ inr (Order first.0, (size, first.1))
-    | inl order ↦ elim (first_or_none (length timed.net.links) (λ k. KeepsLink seconds (link_at timed.net k)) (λ k. keeps_link seconds (link_at timed.net k))) [
+    | inl order ↦ elim (first_or_none (length timed.net.links) (λ k. KeepsLinkInSeconds seconds (link_at timed.net k)) (λ k. keeps_link seconds (link_at timed.net k))) [
       | inr first ↦ inr (Link first.0, (size, order, first.1))
       | inl links ↦ elim (first_or_none (points timed.net) (KeepsBounds timed seconds) (λ p. between (lower_second timed p) (upper_second timed p) (second_at seconds p))) [
         | inr first ↦ inr (Bound first.0, (size, order, links, first.1))
@@ -44,15 +44,15 @@ module _ (timed : PlainTimed) where
   ]
 
   -- lines go on to their end, or one is the first that does not
-  on_or_stop : (lines : List Line) → GoOn timed lines ⊎ ((k : ℕ) × IsNoCycle timed lines (Step k))
-  on_or_stop lines = elim (first_or_none (suc (length lines)) (λ k. GoOn timed (take k lines)) (λ k. go_on timed (take k lines))) [
-    | inl each ↦ inl (subst (GoOn timed) (take-length lines) (each (length lines) (omega arith)))
+  on_or_stop : (lines : List Line) → LinesGoOn timed lines ⊎ ((k : ℕ) × IsNoCycle timed lines (Step k))
+  on_or_stop lines = elim (first_or_none (suc (length lines)) (λ k. LinesGoOn timed (take k lines)) (λ k. go_on timed (take k lines))) [
+    | inl each ↦ inl (subst (LinesGoOn timed) (take-length lines) (each (length lines) (omega arith)))
     | inr first ↦ inr (stop first.0 first.1.0 first.1.1 first.1.2)
   ]
     where
-      stop : (k : ℕ) → k < suc (length lines) → (GoOn timed (take k lines) → ⊥) → ((j : ℕ) → j < k → GoOn timed (take j lines)) → (k : ℕ) × IsNoCycle timed lines (Step k)
+      stop : (k : ℕ) → k < suc (length lines) → (LinesGoOn timed (take k lines) → ⊥) → ((j : ℕ) → j < k → LinesGoOn timed (take j lines)) → (k : ℕ) × IsNoCycle timed lines (Step k)
       stop zero less never before = absurd (never (0, (0, refl)))
-      stop (suc k) less never before = (k, (omega (arith, less), before k (omega arith), λ on. never (subst (λ (n : ℕ). GoOn timed (take n lines)) (add-one k) on)))
+      stop (suc k) less never before = (k, (omega (arith, less), before k (omega arith), λ on. never (subst (λ (n : ℕ). LinesGoOn timed (take n lines)) (add-one k) on)))
 
   -- lines that lead back
   by_sum : (lines : List Line) (x : ℕ) → LeadFromTo timed lines x x → OrReason (IsNegative timed lines) (IsNoCycle timed lines)

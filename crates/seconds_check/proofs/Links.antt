@@ -7,10 +7,10 @@ use Rattle.net_core.specs.declared.atom.PairOrder.{PairOrder}
 use Rattle.net_core.specs.declared.net.NetLink.{NetLink}
 use Rattle.net_core.proofs.AtomLaws.{all_mapped}
 use Rattle.seconds_core.specs.Orders.{KeepsOrder}
-use Rattle.seconds_core.specs.Placed.{KeepsLink}
+use Rattle.seconds_core.specs.Placed.{KeepsLinkInSeconds}
 use Rattle.seconds_core.proofs.Relations.{relation_by_orders}
 
-pub orders_say_the_link : (seconds : List ℤ) (link : NetLink) → All (λ order. KeepsOrder seconds (atom_between (points_of link.a) (points_of link.b) order)) (orders_of link.rel) ↔ KeepsLink seconds link
+pub orders_say_the_link : (seconds : List ℤ) (link : NetLink) → All (λ order. KeepsOrder seconds (atom_between (points_of link.a) (points_of link.b) order)) (orders_of link.rel) ↔ KeepsLinkInSeconds seconds link
 orders_say_the_link seconds link =
     let between = atom_between (points_of link.a) (points_of link.b) in
     let Kept = λ (order : PairOrder). KeepsOrder seconds (between order) in

@@ -7,11 +7,11 @@ use Rattle.net_core.proofs.FirstLaws.{one_first}
 use Rattle.seconds_core.specs.declared.line.Line.{Line}
 use Rattle.seconds_core.specs.Cycles.{IsNegative}
 use Rattle.seconds_core.specs.Evidence.{Placed, Cycle}
-use Rattle.seconds_core.specs.Placed.{IsPlaced, KeepsBounds, KeepsLimits, KeepsLink, StartsFirst}
+use Rattle.seconds_core.specs.Placed.{IsPlaced, KeepsBounds, KeepsLimits, KeepsLinkInSeconds, StartsFirstInSeconds}
 use Rattle.seconds_core.specs.Timed.{PlainTimed}
 use Rattle.seconds_check.specs.declared.refusal.SecondsReason.{SecondsReason}
 use Rattle.seconds_check.specs.declared.refusal.SecondsReason.TheVariants.{Size, Order, Link, Bound, Length, Step, End, Sum}
-use Rattle.seconds_check.specs.Refusals.{FirstBroken, FirstOutside, FirstUnordered, FirstWrongLength, GoOn, HasSize, IsMisplaced, IsNoCycle, OneVerdict}
+use Rattle.seconds_check.specs.Refusals.{FirstBroken, FirstOutside, FirstUnorderedSeconds, FirstWrongLength, LinesGoOn, HasSecondsSize, IsMisplaced, IsNoCycle, OneSecondsVerdict}
 use Rattle.seconds_check.proofs.Joined.{ends_alike, goes_less, goes_whole}
 
 module _ (timed : PlainTimed) (seconds : List ℤ) where
@@ -27,15 +27,15 @@ module _ (timed : PlainTimed) (seconds : List ℤ) where
   placed_not_both Sum placed m = m
 
   -- a reason of the size is none of seconds of the right size
-  sized : (size : ℕ) → IsMisplaced timed seconds (Size size) → HasSize timed seconds → ⊥
+  sized : (size : ℕ) → IsMisplaced timed seconds (Size size) → HasSecondsSize timed seconds → ⊥
   sized size m h = omega (arith, m.0, m.1, h)
 
   -- what is found first of intervals, links and points is found once
-  one_unordered : (o p : Option ℕ) → FirstUnordered timed seconds o → FirstUnordered timed seconds p → o ≡ p
-  one_unordered o p h k = one_first (intervals timed.net) (StartsFirst seconds) o p h k
+  one_unordered : (o p : Option ℕ) → FirstUnorderedSeconds timed seconds o → FirstUnorderedSeconds timed seconds p → o ≡ p
+  one_unordered o p h k = one_first (intervals timed.net) (StartsFirstInSeconds seconds) o p h k
 
   one_broken : (o p : Option ℕ) → FirstBroken timed seconds o → FirstBroken timed seconds p → o ≡ p
-  one_broken o p h k = one_first (length timed.net.links) (λ n. KeepsLink seconds (link_at timed.net n)) o p h k
+  one_broken o p h k = one_first (length timed.net.links) (λ n. KeepsLinkInSeconds seconds (link_at timed.net n)) o p h k
 
   one_outside : (o p : Option ℕ) → FirstOutside timed seconds o → FirstOutside timed seconds p → o ≡ p
   one_outside o p h k = one_first (points timed.net) (KeepsBounds timed seconds) o p h k
@@ -80,17 +80,17 @@ module _ (timed : PlainTimed) (seconds : List ℤ) where
 module _ (timed : PlainTimed) (lines : List Line) where
   -- a negative cycle is refused for no reason
   negative_not_both : (reason : SecondsReason) → IsNegative timed lines → IsNoCycle timed lines reason → ⊥
-  negative_not_both (Step k) round h = h.2 (goes_whole timed lines round.0 round.0 (k + 1) round.1)
-  negative_not_both End round h = h.3 (ends_alike timed lines round.0 h.0 h.1 round.1 h.2)
-  negative_not_both Sum round h = omega (arith, ints, round.2, h.2)
-  negative_not_both (Size n) round h = h
-  negative_not_both (Order n) round h = h
-  negative_not_both (Link n) round h = h
-  negative_not_both (Bound n) round h = h
-  negative_not_both (Length n) round h = h
+  negative_not_both (Step k) closed h = h.2 (goes_whole timed lines closed.0 closed.0 (k + 1) closed.1)
+  negative_not_both End closed h = h.3 (ends_alike timed lines closed.0 h.0 h.1 closed.1 h.2)
+  negative_not_both Sum closed h = omega (arith, ints, closed.2, h.2)
+  negative_not_both (Size n) closed h = h
+  negative_not_both (Order n) closed h = h
+  negative_not_both (Link n) closed h = h
+  negative_not_both (Bound n) closed h = h
+  negative_not_both (Length n) closed h = h
 
   -- the first line that does not go on is one
-  one_stop : (j k : ℕ) → GoOn timed (take k lines) → (GoOn timed (take (j + 1) lines) → ⊥) → k ≤ j
+  one_stop : (j k : ℕ) → LinesGoOn timed (take k lines) → (LinesGoOn timed (take (j + 1) lines) → ⊥) → k ≤ j
   one_stop j k goes stops = elim (cases_lt j k) [
     | inl less ↦ absurd (stops (goes_less timed lines (j + 1) k (omega arith) goes))
     | inr le ↦ le
@@ -121,6 +121,6 @@ module _ (timed : PlainTimed) (lines : List Line) where
   one_no_cycle r (Bound n) h g = absurd g
   one_no_cycle r (Length n) h g = absurd g
 
-pub one_verdict : OneVerdict
+pub one_verdict : OneSecondsVerdict
 one_verdict timed (Placed seconds) = record { not_both = placed_not_both timed seconds; one_refusal = one_misplaced timed seconds }
 one_verdict timed (Cycle lines) = record { not_both = negative_not_both timed lines; one_refusal = one_no_cycle timed lines }

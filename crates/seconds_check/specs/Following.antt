@@ -3,13 +3,13 @@ use Rattle.std.specs.Prelude.{◌≡◌, ℕ, ◌+◌, ◌<◌, List, length, ta
 use Rattle.seconds_core.specs.declared.line.Line.{Line}
 use Rattle.seconds_core.specs.Cycles.{LeadFromTo, sum_of}
 use Rattle.seconds_core.specs.Timed.{PlainTimed}
-use Rattle.seconds_check.specs.Refusals.{GoFrom}
-use Rattle.seconds_check.specs.declared.cycle.Reached.{Reached}
+use Rattle.seconds_check.specs.Refusals.{LinesGoFrom}
+use Rattle.seconds_check.specs.declared.cycle.LinesEnd.{LinesEnd}
 
 -- the lines are joined from a point to this one, and this is the sum of their weights
-abbrev pub LeadsTo : PlainTimed → ℕ → List Line → Reached → Type 0
-LeadsTo timed from lines reached = LeadFromTo timed lines from reached.at × (reached.sum ≡ sum_of timed lines)
+abbrev pub LinesLeadTo : PlainTimed → ℕ → List Line → LinesEnd → Type 0
+LinesLeadTo timed from lines reached = LeadFromTo timed lines from reached.at × (reached.sum ≡ sum_of timed lines)
 
 -- line k is the first that does not go on
-abbrev pub StopsAt : PlainTimed → ℕ → List Line → ℕ → Type 0
-StopsAt timed from lines k = (k < length lines) × GoFrom timed from (take k lines) × (GoFrom timed from (take (k + 1) lines) → ⊥)
+abbrev pub LinesStopAt : PlainTimed → ℕ → List Line → ℕ → Type 0
+LinesStopAt timed from lines k = (k < length lines) × LinesGoFrom timed from (take k lines) × (LinesGoFrom timed from (take (k + 1) lines) → ⊥)

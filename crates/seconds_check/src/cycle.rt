@@ -1,8 +1,8 @@
 //! Whether lines are a cycle whose sum is below 0.
-ghost use Rattle.seconds_check.specs.Following.{LeadsTo, StopsAt};
+ghost use Rattle.seconds_check.specs.Following.{LinesLeadTo, LinesStopAt};
 ghost use Rattle.seconds_check.specs.Refusals.{IsNoCycle};
 ghost use Rattle.seconds_core.specs.Constraints as spec;
-ghost use Rattle.seconds_core.specs.Constraints.{IsWithin};
+ghost use Rattle.seconds_core.specs.Constraints.{IsConstraintWithin};
 ghost use Rattle.seconds_core.specs.Cycles.{IsNegative};
 ghost use Rattle.seconds_core.specs.Evidence.{max_lines};
 ghost use Rattle.seconds_core.specs.declared.line.Constraint.{Constraint as ConstraintOf};
@@ -39,7 +39,7 @@ pub fn check_cycle(timed: &Timed, lines: &[Line]) -> Result<(), SecondsReason>
 
 /// Where lines lead, and the sum of their weights.
 #[derive(Clone, Copy)]
-struct Reached {
+struct LinesEnd {
     at: u32,
     sum: i128,
 }
@@ -49,10 +49,10 @@ struct Reached {
 /// # Errors
 ///
 /// The first line that does not go on.
-fn follow(timed: &Timed, from: u32, lines: &[Line]) -> Result<Reached, u32>
+fn follow(timed: &Timed, from: u32, lines: &[Line]) -> Result<LinesEnd, u32>
     requires { length lines.now < max_lines }
-    ensures ok { IfOk result (LeadsTo timed.now from lines.now) }
-    ensures err { IfErr result (StopsAt timed.now from lines.now) }
+    ensures ok { IfOk result (LinesLeadTo timed.now from lines.now) }
+    ensures err { IfErr result (LinesStopAt timed.now from lines.now) }
 {
     let mut at = from;
     let mut sum: i128 = 0;
@@ -65,7 +65,7 @@ fn follow(timed: &Timed, from: u32, lines: &[Line]) -> Result<Reached, u32>
         sum = plus(sum, next.weight);
         k += 1;
     }
-    Ok(Reached { at, sum })
+    Ok(LinesEnd { at, sum })
 }
 
 /// The sum with one more weight.
@@ -80,7 +80,7 @@ fn plus(sum: i128, weight: i64) -> i128
 fn next_of(timed: &Timed, at: u32, line: Line) -> Option<Constraint>
     ensures some { IfSome result (λ next. spec.constraint_of timed.now line ≡ Some next) }
     ensures begins { IfSome result (λ next. next.from ≡ at) }
-    ensures within { IfSome result (IsWithin timed.now) }
+    ensures within { IfSome result (IsConstraintWithin timed.now) }
     ensures none { IfNone result ((next : ConstraintOf) → spec.constraint_of timed.now line ≡ Some next → next.from ≡ at → ⊥) }
 {
     let next = constraint_of(timed, line)?;

@@ -1,11 +1,11 @@
 //! Whether seconds are a placing.
 ghost use Rattle.net_core.specs.Atoms as atoms;
 ghost use Rattle.net_core.specs.Nets.{intervals, link_at, points};
-ghost use Rattle.seconds_check.specs.Refusals.{FirstBroken, FirstOutside, FirstUnordered, FirstWrongLength, IsMisplaced};
+ghost use Rattle.seconds_check.specs.Refusals.{FirstBroken, FirstOutside, FirstUnorderedSeconds, FirstWrongLength, IsMisplaced};
 ghost use Rattle.seconds_core.specs.Evidence.{ArePairs};
 ghost use Rattle.seconds_core.specs.Placed as spec;
-ghost use Rattle.seconds_core.specs.Orders.{AreInOrder, KeepsOrder};
-ghost use Rattle.seconds_core.specs.Placed.{IsBetween, IsPlaced, KeepsBounds, KeepsLimits, KeepsLink, StartsFirst};
+ghost use Rattle.seconds_core.specs.Orders.{AreSecondsInOrder, KeepsOrder};
+ghost use Rattle.seconds_core.specs.Placed.{IsBetween, IsPlaced, KeepsBounds, KeepsLimits, KeepsLinkInSeconds, StartsFirstInSeconds};
 ghost use Rattle.std.specs.List.{All};
 ghost use Rattle.std.specs.Prelude.{IfErr, IfSome, IsTrue, OnOk, length, ◌*◌, ◌+◌, ◌<◌, ◌≡◌, ◌↔◌, ◌<ℤ◌, ◌≤ℤ◌, ◌-ℤ◌};
 
@@ -41,7 +41,7 @@ pub fn check_placing(timed: &Timed, seconds: &[i64]) -> Result<(), SecondsReason
 
 /// The first interval whose start is not before its end.
 fn first_unordered(timed: &Timed, seconds: &[i64]) -> Option<u32>
-    ensures { FirstUnordered timed.now seconds.now result }
+    ensures { FirstUnorderedSeconds timed.now seconds.now result }
 {
     for interval in 0..timed.net().intervals() {
         if !starts_first(seconds, interval) {
@@ -96,7 +96,7 @@ fn second_at(seconds: &[i64], point: usize) -> i64
 
 /// Whether the interval starts before it ends.
 fn starts_first(seconds: &[i64], interval: u32) -> bool
-    ensures { IsTrue result ↔ StartsFirst seconds.now interval }
+    ensures { IsTrue result ↔ StartsFirstInSeconds seconds.now interval }
 {
     let start = 2 * interval as usize;
     is_before(second_at(seconds, start), second_at(seconds, start + 1))
@@ -111,7 +111,7 @@ fn is_before(first: i64, second: i64) -> bool
 /// Whether the link holds.
 fn keeps_link(timed: &Timed, seconds: &[i64], link: u32) -> bool
     requires { link < length timed.now.net.links }
-    ensures { IsTrue result ↔ KeepsLink seconds.now (link_at timed.now.net link) }
+    ensures { IsTrue result ↔ KeepsLinkInSeconds seconds.now (link_at timed.now.net link) }
 {
     let link = timed.net().link(link);
     let a = points_of(link.a);
@@ -150,7 +150,7 @@ fn keeps_order(seconds: &[i64], atom: Atom) -> bool
 
 /// Whether one second is before another, or the same where the order is not strict.
 fn are_in_order(strict: bool, first: i64, second: i64) -> bool
-    ensures { IsTrue result ↔ AreInOrder strict first second }
+    ensures { IsTrue result ↔ AreSecondsInOrder strict first second }
 {
     if strict {
         first < second

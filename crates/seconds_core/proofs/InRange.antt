@@ -17,7 +17,7 @@ use Rattle.seconds_core.specs.declared.line.Constraint.{Constraint}
 use Rattle.seconds_core.specs.declared.line.Line.{Line}
 use Rattle.seconds_core.specs.declared.line.Line.TheVariants.{Span, Via, Lower, Upper, Least, Most}
 use Rattle.seconds_core.proofs.Named.{made, tested, there, within}
-use Rattle.seconds_core.specs.Constraints.{IsWithin, at_most, constraint_by, constraint_of}
+use Rattle.seconds_core.specs.Constraints.{IsConstraintWithin, at_most, constraint_by, constraint_of}
 use Rattle.seconds_core.specs.Timed.{AreLengths, AreSeconds, IsLength, IsSecond, IsTimed, PlainTimed, limits_at, lower_second, origin, upper_second}
 
 pub lengths_at : (timed : PlainTimed) (i : ℕ) → IsTimed timed → i < intervals timed.net → AreLengths (limits_at timed i)
@@ -60,42 +60,42 @@ lower_past timed p le = ap (λ b. lower_of b (p % 2 == 1)) (past timed p le)
 pub upper_past : (timed : PlainTimed) (p : ℕ) → origin timed ≤ p → upper_second timed p ≡ None
 upper_past timed p le = ap (λ b. upper_of b (p % 2 == 1)) (past timed p le)
 
-within_by : (timed : PlainTimed) (a : Atom) (strict : Bool) → a.strict ≡ strict → a.from ≤ origin timed → a.to ≤ origin timed → IsWithin timed (constraint_by a)
+within_by : (timed : PlainTimed) (a : Atom) (strict : Bool) → a.strict ≡ strict → a.from ≤ origin timed → a.to ≤ origin timed → IsConstraintWithin timed (constraint_by a)
 within_by timed a true e from to = record { from = to; to = from; low = rw e (omega (arith, ints)); high = rw e (omega (arith, ints)) }
 within_by timed a false e from to = record { from = to; to = from; low = rw e (omega (arith, ints)); high = rw e (omega (arith, ints)) }
 
 -- the constraint of an order of a link is between points of the net
-pub via_in_range : (timed : PlainTimed) (link atom : ℕ) (a : Atom) → IsTimed timed → atom_of timed.net (Link link atom) ≡ Some a → IsWithin timed (constraint_by a)
+pub via_in_range : (timed : PlainTimed) (link atom : ℕ) (a : Atom) → IsTimed timed → atom_of timed.net (Link link atom) ≡ Some a → IsConstraintWithin timed (constraint_by a)
 via_in_range timed link atom a is e =
     let in_range = step_in_range timed.net (Link link atom) a is.net e in
     within_by timed a a.strict refl (omega (arith, in_range.0)) (omega (arith, in_range.1))
 
 -- a constraint that a line names is between points, and its weight is not too far from 0
-pub named_within : (timed : PlainTimed) (line : Line) (c : Constraint) → IsTimed timed → constraint_of timed line ≡ Some c → IsWithin timed c
+pub named_within : (timed : PlainTimed) (line : Line) (c : Constraint) → IsTimed timed → constraint_of timed line ≡ Some c → IsConstraintWithin timed c
 named_within timed (Span i) c is e =
     let (lt, same) = tested (nat_lt i (intervals timed.net)) (at_most (2 * i + 1) (2 * i) (neg_ℤ (pos 1))) c e in
     let less = ltb-true i (intervals timed.net) lt in
-    subst (IsWithin timed) same (record { from = omega (arith, less); to = omega (arith, less); low = omega (arith, ints); high = omega (arith, ints) })
+    subst (IsConstraintWithin timed) same (record { from = omega (arith, less); to = omega (arith, less); low = omega (arith, ints); high = omega (arith, ints) })
 named_within timed (Via link atom) c is e =
     let (a, at, same) = made constraint_by (atom_of timed.net (Link link atom)) c e in
-    subst (IsWithin timed) same (via_in_range timed link atom a is at)
+    subst (IsConstraintWithin timed) same (via_in_range timed link atom a is at)
 named_within timed (Lower p) c is e =
     let (n, at, same) = made (λ n. at_most p (origin timed) (neg_ℤ n)) (lower_second timed p) c e in
     let lt = within (lower_second timed p) n p (origin timed) at (lower_past timed p) in
     let near = there IsSecond (lower_second timed p) n (lower_in_range timed p is lt) at in
-    subst (IsWithin timed) same (record { from = omega (arith, lt); to = omega arith; low = omega (arith, ints, near.1); high = omega (arith, ints, near.0) })
+    subst (IsConstraintWithin timed) same (record { from = omega (arith, lt); to = omega arith; low = omega (arith, ints, near.1); high = omega (arith, ints, near.0) })
 named_within timed (Upper p) c is e =
     let (n, at, same) = made (λ n. at_most (origin timed) p n) (upper_second timed p) c e in
     let lt = within (upper_second timed p) n p (origin timed) at (upper_past timed p) in
     let near = there IsSecond (upper_second timed p) n (upper_in_range timed p is lt) at in
-    subst (IsWithin timed) same (record { from = omega arith; to = omega (arith, lt); low = near.0; high = near.1 })
+    subst (IsConstraintWithin timed) same (record { from = omega arith; to = omega (arith, lt); low = near.0; high = near.1 })
 named_within timed (Least i) c is e =
     let (n, at, same) = made (λ n. at_most (2 * i + 1) (2 * i) (neg_ℤ n)) (limits_at timed i).least c e in
     let lt = within (limits_at timed i).least n i (intervals timed.net) at (λ le. ap (λ l. l.least) (limits_past timed i is le)) in
     let length = there IsLength (limits_at timed i).least n (lengths_at timed i is lt).0 at in
-    subst (IsWithin timed) same (record { from = omega (arith, lt); to = omega (arith, lt); low = omega (arith, ints, length.1); high = omega (arith, ints, length.0) })
+    subst (IsConstraintWithin timed) same (record { from = omega (arith, lt); to = omega (arith, lt); low = omega (arith, ints, length.1); high = omega (arith, ints, length.0) })
 named_within timed (Most i) c is e =
     let (n, at, same) = made (λ n. at_most (2 * i) (2 * i + 1) n) (limits_at timed i).most c e in
     let lt = within (limits_at timed i).most n i (intervals timed.net) at (λ le. ap (λ l. l.most) (limits_past timed i is le)) in
     let length = there IsLength (limits_at timed i).most n (lengths_at timed i is lt).1 at in
-    subst (IsWithin timed) same (record { from = omega (arith, lt); to = omega (arith, lt); low = omega (arith, ints, length.0); high = omega (arith, ints, length.1) })
+    subst (IsConstraintWithin timed) same (record { from = omega (arith, lt); to = omega (arith, lt); low = omega (arith, ints, length.0); high = omega (arith, ints, length.1) })

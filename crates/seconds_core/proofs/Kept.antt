@@ -16,15 +16,15 @@ use Rattle.net_core.proofs.StepLaws.{one_of_all}
 use Rattle.seconds_core.specs.declared.line.Line.TheVariants.{Span, Via, Lower, Upper, Least, Most}
 use Rattle.seconds_core.specs.Constraints.{IsMet, at_most, constraint_by}
 use Rattle.seconds_core.specs.Laws.{ConstraintsSayWhatIsPlaced, MeetsAll}
-use Rattle.seconds_core.specs.Orders.{AreInOrder, KeepsOrder}
-use Rattle.seconds_core.specs.Placed.{IsPlaced, KeepsLink, lasts, second_at}
+use Rattle.seconds_core.specs.Orders.{AreSecondsInOrder, KeepsOrder}
+use Rattle.seconds_core.specs.Placed.{IsPlaced, KeepsLinkInSeconds, lasts, second_at}
 use Rattle.seconds_core.specs.Timed.{IsTimed, PlainTimed, limits_at, lower_second, origin, upper_second}
 use Rattle.seconds_core.proofs.Named.{each, made, tested, there, within}
 use Rattle.seconds_core.proofs.Relations.{relation_by_orders}
 use Rattle.seconds_core.proofs.InRange.{limits_past, lower_past, upper_past}
 
 -- an order of two seconds is a constraint
-order_met : (strict : Bool) (m n : ℤ) → AreInOrder strict m n ↔ (m ≤ℤ (n +ℤ cond strict (neg_ℤ (pos 1)) (pos 0)))
+order_met : (strict : Bool) (m n : ℤ) → AreSecondsInOrder strict m n ↔ (m ≤ℤ (n +ℤ cond strict (neg_ℤ (pos 1)) (pos 0)))
 order_met true m n = (λ h. omega (arith, ints, h), λ h. omega (arith, ints, h))
 order_met false m n = (λ h. omega (arith, ints, h), λ h. omega (arith, ints, h))
 
@@ -42,7 +42,7 @@ module _ (timed : PlainTimed) (seconds : List ℤ) where
       let (a, at, same) = made constraint_by (atom_of timed.net (Link k j)) c e in
       option_and_then_some (λ (l : NetLink). slice_get (atoms_of l.a l.rel l.b) j) (slice_get timed.net.links k) a at (λ l here there.
       let link = get_or_from_slice_get timed.net.links k l (record { a = 0; rel = rel.Before; b = 0 }) here in
-      let keeps = (relation_by_orders seconds l).0 (subst (KeepsLink seconds) link (placed.links k (slice_get_within timed.net.links k l here))) in
+      let keeps = (relation_by_orders seconds l).0 (subst (KeepsLinkInSeconds seconds) link (placed.links k (slice_get_within timed.net.links k l here))) in
       let order = one_of_all (KeepsOrder seconds) (atoms_of l.a l.rel l.b) j a (All-from_recursion (KeepsOrder seconds) (atoms_of l.a l.rel l.b) keeps) there in
       subst (IsMet seconds) same ((order_met a.strict (second_at seconds a.from) (second_at seconds a.to)).0 order))
   met is placed (Lower p) c e =

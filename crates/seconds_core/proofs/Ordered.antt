@@ -9,7 +9,7 @@ use Rattle.net_core.specs.Relations.{Relates, Timeline}
 use Rattle.net_core.specs.declared.rels.Rel.{Rel}
 use Rattle.net_core.specs.declared.rels.Rel.TheVariants as rel
 use Rattle.seconds_core.specs.Laws.{PlacedFits, SecondsAreCounted, SecondsSayTheRelation}
-use Rattle.seconds_core.specs.Placed.{KeepsLink, second_at}
+use Rattle.seconds_core.specs.Placed.{KeepsLinkInSeconds, second_at}
 use Rattle.seconds_core.specs.Timed.{lower_second, upper_second}
 
 -- seconds that are counted from one second on are before one another, the same, or no later, where the numbers are
@@ -32,7 +32,7 @@ three p q r = (λ h. (p.0 h.0, q.0 h.1, r.0 h.2), λ h. (p.1 h.0, q.1 h.1, r.1 h
 pub seconds_say_the_relation : SecondsSayTheRelation
 seconds_say_the_relation first seconds t link (s, e) (u, v) = by link.rel
   where
-    by : (r : Rel) → KeepsLink seconds (record { a = link.a; rel = r; b = link.b }) ↔ Relates t link.a r link.b
+    by : (r : Rel) → KeepsLinkInSeconds seconds (record { a = link.a; rel = r; b = link.b }) ↔ Relates t link.a r link.b
     by rel.Before = lt _ _ _ _ _ e u
     by rel.After = lt _ _ _ _ _ v s
     by rel.Includes = two (lt _ _ _ _ _ s u) (lt _ _ _ _ _ v e)

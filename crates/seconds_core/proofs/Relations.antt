@@ -5,8 +5,8 @@ use Rattle.std.proofs.lemmas.Int.{ints}
 use Rattle.net_core.specs.declared.net.NetLink.{NetLink}
 use Rattle.net_core.specs.declared.rels.Rel.{Rel}
 use Rattle.net_core.specs.declared.rels.Rel.TheVariants as rel
-use Rattle.seconds_core.specs.Orders.{KeepsOrders}
-use Rattle.seconds_core.specs.Placed.{KeepsLink}
+use Rattle.seconds_core.specs.Orders.{KeepsOrdersInSeconds}
+use Rattle.seconds_core.specs.Placed.{KeepsLinkInSeconds}
 
 -- seconds of which neither is after the other are one
 same : (m n : ℤ) → m ≤ℤ n → n ≤ℤ m → m ≡ n
@@ -21,10 +21,10 @@ downto m n e = omega (arith, ints, e)
 two : {A B : Type 0} → (A × B) ↔ (A × (B × ⊤))
 two = (λ h. (h.0, (h.1, tt)), λ h. (h.0, h.1.0))
 
-pub relation_by_orders : (seconds : List ℤ) (link : NetLink) → KeepsLink seconds link ↔ KeepsOrders seconds link
+pub relation_by_orders : (seconds : List ℤ) (link : NetLink) → KeepsLinkInSeconds seconds link ↔ KeepsOrdersInSeconds seconds link
 relation_by_orders seconds link = by link.rel link.a link.b
   where
-    by : (r : Rel) (a b : ℕ) → KeepsLink seconds (record { a = a; rel = r; b = b }) ↔ KeepsOrders seconds (record { a = a; rel = r; b = b })
+    by : (r : Rel) (a b : ℕ) → KeepsLinkInSeconds seconds (record { a = a; rel = r; b = b }) ↔ KeepsOrdersInSeconds seconds (record { a = a; rel = r; b = b })
     by rel.Before a b = (λ h. (h, tt), λ h. h.0)
     by rel.After a b = (λ h. (h, tt), λ h. h.0)
     by rel.Includes a b = two

@@ -32,7 +32,7 @@ constraint_of timed (Least i) = option_map (λ n. at_most (2 * i + 1) (2 * i) (n
 constraint_of timed (Most i) = option_map (λ n. at_most (2 * i) (2 * i + 1) n) (limits_at timed i).most
 
 -- its points are those of the intervals or the origin, and its weight is not too far from 0
-pub record IsWithin (timed : PlainTimed) (c : Constraint) : Type 0 where
+pub record IsConstraintWithin (timed : PlainTimed) (c : Constraint) : Type 0 where
   pub from : c.from ≤ origin timed
   pub to : c.to ≤ origin timed
   pub low : neg_ℤ (pos max_second) ≤ℤ c.weight

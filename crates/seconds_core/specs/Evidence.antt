@@ -11,6 +11,6 @@ abbrev pub ArePairs : List ℤ → Type 0
 ArePairs seconds = (length seconds % 2 ≡ 0) × (length seconds < 2 * max_lines)
 
 -- the seconds of a placing, or the lines of a cycle
-pub data PlainEvidence : Type 0 where
-  Placed : List ℤ → PlainEvidence
-  Cycle : List Line → PlainEvidence
+pub data PlainSeconds : Type 0 where
+  Placed : List ℤ → PlainSeconds
+  Cycle : List Line → PlainSeconds

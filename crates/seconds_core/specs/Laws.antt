@@ -8,7 +8,7 @@ use Rattle.seconds_core.specs.declared.line.Constraint.{Constraint}
 use Rattle.seconds_core.specs.declared.line.Line.{Line}
 use Rattle.seconds_core.specs.Constraints.{IsMet, constraint_of}
 use Rattle.seconds_core.specs.Cycles.{IsNegative}
-use Rattle.seconds_core.specs.Placed.{HasPlacing, IsPlaced, KeepsLink, end_at, start_at}
+use Rattle.seconds_core.specs.Placed.{HasPlacing, IsPlaced, KeepsLinkInSeconds, end_at, start_at}
 use Rattle.seconds_core.specs.Timed.{IsTimed, PlainTimed}
 
 -- a timeline counts the seconds of an interval from one second on
@@ -17,7 +17,7 @@ Counts first seconds t i = (start_at seconds i ≡ first +ℤ pos (t (2 * i))) �
 
 -- the law: a link holds of the seconds of its intervals exactly where its relation holds in a timeline that counts them
 abbrev pub SecondsSayTheRelation : Type 0
-SecondsSayTheRelation = (first : ℤ) (seconds : List ℤ) (t : Timeline) (link : NetLink) → Counts first seconds t link.a → Counts first seconds t link.b → KeepsLink seconds link ↔ Relates t link.a link.rel link.b
+SecondsSayTheRelation = (first : ℤ) (seconds : List ℤ) (t : Timeline) (link : NetLink) → Counts first seconds t link.a → Counts first seconds t link.b → KeepsLinkInSeconds seconds link ↔ Relates t link.a link.rel link.b
 
 -- the law: from some second on, some timeline counts the seconds of all intervals
 abbrev pub SecondsAreCounted : Type 0

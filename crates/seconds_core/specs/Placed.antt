@@ -17,12 +17,12 @@ abbrev pub end_at : List ℤ → ℕ → ℤ
 end_at seconds i = second_at seconds (2 * i + 1)
 
 -- the relation of a link holds of its intervals
-abbrev pub KeepsLink : List ℤ → NetLink → Type 0
-KeepsLink seconds link = HoldsInSeconds (start_at seconds link.a) (end_at seconds link.a) link.rel (start_at seconds link.b) (end_at seconds link.b)
+abbrev pub KeepsLinkInSeconds : List ℤ → NetLink → Type 0
+KeepsLinkInSeconds seconds link = HoldsInSeconds (start_at seconds link.a) (end_at seconds link.a) link.rel (start_at seconds link.b) (end_at seconds link.b)
 
 -- the interval starts before it ends
-abbrev pub StartsFirst : List ℤ → ℕ → Type 0
-StartsFirst seconds i = start_at seconds i <ℤ end_at seconds i
+abbrev pub StartsFirstInSeconds : List ℤ → ℕ → Type 0
+StartsFirstInSeconds seconds i = start_at seconds i <ℤ end_at seconds i
 
 -- how long an interval lasts
 abbrev pub lasts : List ℤ → ℕ → ℤ
@@ -43,8 +43,8 @@ KeepsLimits timed seconds i = IsBetween (limits_at timed i).least (limits_at tim
 -- Two seconds for each interval are a placing: each interval starts before it ends, each link holds, each point is in the calendar, and each interval lasts as long as its limits say.
 pub record IsPlaced (timed : PlainTimed) (seconds : List ℤ) : Type 0 where
   pub size : length seconds ≡ points timed.net
-  pub order : (i : ℕ) → i < intervals timed.net → StartsFirst seconds i
-  pub links : (k : ℕ) → k < length timed.net.links → KeepsLink seconds (link_at timed.net k)
+  pub order : (i : ℕ) → i < intervals timed.net → StartsFirstInSeconds seconds i
+  pub links : (k : ℕ) → k < length timed.net.links → KeepsLinkInSeconds seconds (link_at timed.net k)
   pub bounds : (p : ℕ) → p < points timed.net → KeepsBounds timed seconds p
   pub limits : (i : ℕ) → i < intervals timed.net → KeepsLimits timed seconds i
 

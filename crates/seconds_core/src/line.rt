@@ -35,7 +35,7 @@ pub struct Constraint {
 /// The constraint that a line names. None comes exactly where a number is out of range, or what it asks of is not there.
 pub fn constraint_of(timed: &Timed, line: Line) -> Option<Constraint>
     ensures exact { result ≡ spec.constraint_of timed.now line }
-    ensures within { IfSome result (spec.IsWithin timed.now) }
+    ensures within { IfSome result (spec.IsConstraintWithin timed.now) }
 {
     match line {
         Line::Span { interval } => span(timed, interval),
@@ -49,7 +49,7 @@ pub fn constraint_of(timed: &Timed, line: Line) -> Option<Constraint>
 
 fn span(timed: &Timed, interval: u32) -> Option<Constraint>
     ensures exact { result ≡ spec.constraint_of timed.now (Span interval) }
-    ensures within { IfSome result (spec.IsWithin timed.now) }
+    ensures within { IfSome result (spec.IsConstraintWithin timed.now) }
 {
     if interval >= timed.net().intervals() {
         return None;
@@ -64,7 +64,7 @@ fn span(timed: &Timed, interval: u32) -> Option<Constraint>
 #[tactic(auto, using(crate::proofs::InRange::via_in_range))]
 fn via(timed: &Timed, link: u32, atom: u32) -> Option<Constraint>
     ensures exact { result ≡ spec.constraint_of timed.now (Via link atom) }
-    ensures within { IfSome result (spec.IsWithin timed.now) }
+    ensures within { IfSome result (spec.IsConstraintWithin timed.now) }
 {
     let order = step_atom(timed.net(), &Step::Link { link, atom })?;
     Some(Constraint {
@@ -77,7 +77,7 @@ fn via(timed: &Timed, link: u32, atom: u32) -> Option<Constraint>
 #[tactic(auto, using(crate::proofs::InRange::lower_in_range, crate::proofs::InRange::lower_past))]
 fn lower(timed: &Timed, point: u32) -> Option<Constraint>
     ensures exact { result ≡ spec.constraint_of timed.now (Lower point) }
-    ensures within { IfSome result (spec.IsWithin timed.now) }
+    ensures within { IfSome result (spec.IsConstraintWithin timed.now) }
 {
     let origin = timed.origin();
     if point >= origin {
@@ -94,7 +94,7 @@ fn lower(timed: &Timed, point: u32) -> Option<Constraint>
 #[tactic(auto, using(crate::proofs::InRange::upper_in_range, crate::proofs::InRange::upper_past))]
 fn upper(timed: &Timed, point: u32) -> Option<Constraint>
     ensures exact { result ≡ spec.constraint_of timed.now (Upper point) }
-    ensures within { IfSome result (spec.IsWithin timed.now) }
+    ensures within { IfSome result (spec.IsConstraintWithin timed.now) }
 {
     let origin = timed.origin();
     if point >= origin {
@@ -111,7 +111,7 @@ fn upper(timed: &Timed, point: u32) -> Option<Constraint>
 #[tactic(auto, using(crate::proofs::InRange::limits_past))]
 fn least(timed: &Timed, interval: u32) -> Option<Constraint>
     ensures exact { result ≡ spec.constraint_of timed.now (Least interval) }
-    ensures within { IfSome result (spec.IsWithin timed.now) }
+    ensures within { IfSome result (spec.IsConstraintWithin timed.now) }
 {
     if interval >= timed.net().intervals() {
         return None;
@@ -128,7 +128,7 @@ fn least(timed: &Timed, interval: u32) -> Option<Constraint>
 #[tactic(auto, using(crate::proofs::InRange::limits_past))]
 fn most(timed: &Timed, interval: u32) -> Option<Constraint>
     ensures exact { result ≡ spec.constraint_of timed.now (Most interval) }
-    ensures within { IfSome result (spec.IsWithin timed.now) }
+    ensures within { IfSome result (spec.IsConstraintWithin timed.now) }
 {
     if interval >= timed.net().intervals() {
         return None;

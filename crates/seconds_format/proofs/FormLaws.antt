@@ -6,10 +6,10 @@ use Rattle.line_texts.specs.Words.{after, one_of, two_of}
 use Rattle.line_texts.proofs.WordLaws.{either, some_mapped, IsForm, one_form, two_form}
 use Rattle.seconds_core.specs.declared.line.Line.{Line}
 use Rattle.seconds_core.specs.declared.line.Line.TheVariants.{Span, Via, Lower, Upper, Least, Most}
-use Rattle.seconds_format.specs.declared.head.Head.{Head}
-use Rattle.seconds_format.specs.declared.head.Head.TheVariants as head
+use Rattle.seconds_format.specs.declared.head.SecondsHead.{SecondsHead}
+use Rattle.seconds_format.specs.declared.head.SecondsHead.TheVariants as head
 use Rattle.seconds_format.specs.Forms.{cycle_line_of, head_of}
-use Rattle.seconds_format.specs.Texts.{HasNumbers, cycle_line}
+use Rattle.seconds_format.specs.Texts.{HasLineNumbers, cycle_line}
 
 -- a line with another keyword has no number of this one
 no_one : (keyword line : List ℕ) → after keyword line ≡ None → one_of keyword line ≡ None
@@ -24,7 +24,7 @@ no_two keyword line e = rw e refl
 -- ---- the lines of cycles
 
 -- what a line says is read of it
-cycle_line_again : (line : Line) → HasNumbers line → cycle_line_of (cycle_line line) ≡ Some line
+cycle_line_again : (line : Line) → HasLineNumbers line → cycle_line_of (cycle_line line) ≡ Some line
 unfolding cycle_line_of after
 cycle_line_again (Span i) h = rw ((one_form (codes "span ")).again i h) refl
 cycle_line_again (Via link atom) h =
@@ -45,7 +45,7 @@ cycle_line_again (Most i) h =
 
 -- a line says what is read of it
 abbrev Says : List ℕ → Line → Type 0
-Says l line = (cycle_line line ≡ l) × HasNumbers line
+Says l line = (cycle_line line ≡ l) × HasLineNumbers line
 
 -- a line of which something is read says it
 cycle_line_found : (l : List ℕ) (line : Line) → cycle_line_of l ≡ Some line → Says l line
@@ -69,27 +69,27 @@ cycle_line_found l line e =
     ]
 
 -- lines of cycles
-pub cycle_line_form : IsForm cycle_line HasNumbers cycle_line_of
+pub cycle_line_form : IsForm cycle_line HasLineNumbers cycle_line_of
 cycle_line_form = record { again = cycle_line_again; found = cycle_line_found }
 
 -- ---- the kinds of evidence
 
 -- the line that names the kind
-abbrev pub head_line : Head → List ℕ
+abbrev pub head_line : SecondsHead → List ℕ
 head_line (head.Placing n) = one_number (codes "placing ") n
 head_line (head.Cycle n) = one_number (codes "cycle ") n
 
 -- its number can stand in a text
-abbrev pub IsHead : Head → Type 0
+abbrev pub IsHead : SecondsHead → Type 0
 IsHead (head.Placing n) = IsNumber n
 IsHead (head.Cycle n) = IsNumber n
 
 -- a line names a kind
-abbrev SaysHead : List ℕ → Head → Type 0
+abbrev SaysHead : List ℕ → SecondsHead → Type 0
 SaysHead l h = (head_line h ≡ l) × IsHead h
 
 -- a line of which a kind is read names it
-head_found : (l : List ℕ) (h : Head) → head_of l ≡ Some h → SaysHead l h
+head_found : (l : List ℕ) (h : SecondsHead) → head_of l ≡ Some h → SaysHead l h
 unfolding head_of
 head_found l h e =
     elim (either (option_map (λ n. head.Placing n) (one_of (codes "placing ") l)) _ h e) [
@@ -98,7 +98,7 @@ head_found l h e =
     ]
 
 -- a kind is read of its line
-head_again : (h : Head) → IsHead h → head_of (head_line h) ≡ Some h
+head_again : (h : SecondsHead) → IsHead h → head_of (head_line h) ≡ Some h
 unfolding head_of after
 head_again (head.Placing n) f = rw ((one_form (codes "placing ")).again n f) refl
 head_again (head.Cycle n) f = rw (no_one (codes "placing ") (one_number (codes "cycle ") n) refl, (one_form (codes "cycle ")).again n f) refl

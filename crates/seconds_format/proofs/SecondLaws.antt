@@ -9,7 +9,7 @@ use Rattle.std.proofs.lemmas.Option.{cond_some}
 use Rattle.line_texts.specs.Words.{◌>>=◌, after, alone, is_not, long_to}
 use Rattle.line_texts.proofs.Numbers.{some_bind}
 use Rattle.line_texts.proofs.WordLaws.{IsForm, after_again, after_found, alone_is, long_differ, long_to_again, long_to_found, some_is}
-use Rattle.seconds_format.specs.Texts.{IsLong, IsPair, at_line}
+use Rattle.seconds_format.specs.Texts.{IsLong, IsLongPair, seconds_at_line}
 use Rattle.seconds_format.specs.Words.{made_by, pair_of, second_before, second_of, second_to}
 
 -- ---- one second
@@ -100,11 +100,11 @@ second_to_found stop (b ∷ bytes) z rest e =
 -- ---- the seconds of an interval
 
 -- a keyword, and what follows it: a second, a space, a second and LF
-at_grouped : (pair : ℤ × ℤ) → at_line pair ≡ codes "at " ++ (signed_decimal pair.0 ++ 32 ∷ (signed_decimal pair.1 ++ 10 ∷ []))
+at_grouped : (pair : ℤ × ℤ) → seconds_at_line pair ≡ codes "at " ++ (signed_decimal pair.0 ++ 32 ∷ (signed_decimal pair.1 ++ 10 ∷ []))
 at_grouped pair = simp append_assoc
 
 -- lines of the seconds of an interval
-pub pair_form : IsForm at_line IsPair pair_of
+pub pair_form : IsForm seconds_at_line IsLongPair pair_of
 unfolding pair_of
 pair_form = record {
   again = λ p fits. ap pair_of (at_grouped p) ∙ rw (after_again (codes "at ") (signed_decimal p.0 ++ 32 ∷ (signed_decimal p.1 ++ 10 ∷ [])), second_to_again 32 p.0 (signed_decimal p.1 ++ 10 ∷ []) (omega arith) fits.0, second_to_again 10 p.1 [] (omega arith) fits.1) refl;
@@ -117,5 +117,5 @@ pair_form = record {
       let g = second_to_found 10 b.0.1 c.0.0 c.0.1 c.1 in
       let second : b.0.1 ≡ signed_decimal c.0.0 ++ 10 ∷ [] = g.0 ∙ ap (λ (x : List ℕ). signed_decimal c.0.0 ++ 10 ∷ x) d.1 in
       let whole : l ≡ codes "at " ++ (signed_decimal b.0.0 ++ 32 ∷ (signed_decimal c.0.0 ++ 10 ∷ [])) = after_found (codes "at ") l a.0 a.1 ∙ ap (λ (x : List ℕ). codes "at " ++ x) (f.0 ∙ ap (λ (x : List ℕ). signed_decimal b.0.0 ++ 32 ∷ x) second) in
-      subst (λ (q : ℤ × ℤ). (at_line q ≡ l) × IsPair q) d.0 (at_grouped (b.0.0, c.0.0) ∙ sym whole, (f.1, g.1));
+      subst (λ (q : ℤ × ℤ). (seconds_at_line q ≡ l) × IsLongPair q) d.0 (at_grouped (b.0.0, c.0.0) ∙ sym whole, (f.1, g.1));
 }

@@ -4,8 +4,8 @@ use Rattle.std.specs.Option.{option_or}
 use Rattle.line_texts.specs.Words.{one_of, two_of}
 use Rattle.seconds_core.specs.declared.line.Line.{Line}
 use Rattle.seconds_core.specs.declared.line.Line.TheVariants.{Span, Via, Lower, Upper, Least, Most}
-use Rattle.seconds_format.specs.declared.head.Head.{Head}
-use Rattle.seconds_format.specs.declared.head.Head.TheVariants as head
+use Rattle.seconds_format.specs.declared.head.SecondsHead.{SecondsHead}
+use Rattle.seconds_format.specs.declared.head.SecondsHead.TheVariants as head
 
 -- the line of a cycle
 unfoldable pub cycle_line_of : List ℕ → Option Line
@@ -18,7 +18,7 @@ cycle_line_of line =
     (option_map (λ i. Most i) (one_of (codes "most ") line))))))
 
 -- the kind of evidence, by the line that names it
-unfoldable pub head_of : List ℕ → Option Head
+unfoldable pub head_of : List ℕ → Option SecondsHead
 head_of line =
     option_or (option_map (λ n. head.Placing n) (one_of (codes "placing ") line))
     (option_map (λ n. head.Cycle n) (one_of (codes "cycle ") line))

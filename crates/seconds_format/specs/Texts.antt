@@ -5,7 +5,7 @@ use Rattle.std.specs.Int.{w64}
 use Rattle.std.specs.List.{All, concat}
 use Rattle.line_texts.specs.Numbers.{IsNumber, one_number, two_numbers}
 use Rattle.line_texts.specs.Lines.{last_line, Lines}
-use Rattle.seconds_core.specs.Evidence.{ArePairs, PlainEvidence, Placed, Cycle}
+use Rattle.seconds_core.specs.Evidence.{ArePairs, PlainSeconds, Placed, Cycle}
 use Rattle.seconds_core.specs.declared.line.Line.{Line}
 use Rattle.seconds_core.specs.declared.line.Line.TheVariants.{Span, Via, Lower, Upper, Least, Most}
 
@@ -14,32 +14,32 @@ abbrev pub IsLong : ℤ → Type 0
 IsLong second = FitsSigned w64 second
 
 -- the seconds of an interval can stand in a text
-abbrev pub IsPair : ℤ × ℤ → Type 0
-IsPair pair = IsLong pair.0 × IsLong pair.1
+abbrev pub IsLongPair : ℤ × ℤ → Type 0
+IsLongPair pair = IsLong pair.0 × IsLong pair.1
 
 -- the numbers of a line of a cycle can stand in a text
-abbrev pub HasNumbers : Line → Type 0
-HasNumbers (Span i) = IsNumber i
-HasNumbers (Via link atom) = IsNumber link × IsNumber atom
-HasNumbers (Lower p) = IsNumber p
-HasNumbers (Upper p) = IsNumber p
-HasNumbers (Least i) = IsNumber i
-HasNumbers (Most i) = IsNumber i
+abbrev pub HasLineNumbers : Line → Type 0
+HasLineNumbers (Span i) = IsNumber i
+HasLineNumbers (Via link atom) = IsNumber link × IsNumber atom
+HasLineNumbers (Lower p) = IsNumber p
+HasLineNumbers (Upper p) = IsNumber p
+HasLineNumbers (Least i) = IsNumber i
+HasLineNumbers (Most i) = IsNumber i
 
 -- all numbers can stand in a text, and how many intervals or lines there are
-abbrev pub IsWellFormed : PlainEvidence → Type 0
-IsWellFormed (Placed seconds) = ArePairs seconds × All IsLong seconds
-IsWellFormed (Cycle lines) = All HasNumbers lines × IsNumber (length lines)
+abbrev pub IsWellFormedSeconds : PlainSeconds → Type 0
+IsWellFormedSeconds (Placed seconds) = ArePairs seconds × All IsLong seconds
+IsWellFormedSeconds (Cycle lines) = All HasLineNumbers lines × IsNumber (length lines)
 
 -- the start and the end of each interval
-abbrev pub pairs_of : List ℤ → List (ℤ × ℤ)
-pairs_of [] = []
-pairs_of (start ∷ []) = []
-pairs_of (start ∷ finish ∷ seconds) = (start, finish) ∷ pairs_of seconds
+abbrev pub pairs_of_seconds : List ℤ → List (ℤ × ℤ)
+pairs_of_seconds [] = []
+pairs_of_seconds (start ∷ []) = []
+pairs_of_seconds (start ∷ finish ∷ seconds) = (start, finish) ∷ pairs_of_seconds seconds
 
 -- the seconds of an interval; one before second 0 has the sign -
-abbrev pub at_line : ℤ × ℤ → List ℕ
-at_line pair = codes "at " ++ signed_decimal pair.0 ++ codes " " ++ signed_decimal pair.1 ++ codes "\n"
+abbrev pub seconds_at_line : ℤ × ℤ → List ℕ
+seconds_at_line pair = codes "at " ++ signed_decimal pair.0 ++ codes " " ++ signed_decimal pair.1 ++ codes "\n"
 
 -- what names a constraint
 abbrev pub cycle_line : Line → List ℕ
@@ -51,16 +51,16 @@ cycle_line (Least i) = one_number (codes "least ") i
 cycle_line (Most i) = one_number (codes "most ") i
 
 -- how many intervals there are, and the seconds of each; or how many lines there are, and each of them
-abbrev pub body_lines : PlainEvidence → Lines
-body_lines (Placed seconds) = one_number (codes "placing ") (length (pairs_of seconds)) ∷ map at_line (pairs_of seconds)
-body_lines (Cycle lines) = one_number (codes "cycle ") (length lines) ∷ map cycle_line lines
+abbrev pub seconds_body_lines : PlainSeconds → Lines
+seconds_body_lines (Placed seconds) = one_number (codes "placing ") (length (pairs_of_seconds seconds)) ∷ map seconds_at_line (pairs_of_seconds seconds)
+seconds_body_lines (Cycle lines) = one_number (codes "cycle ") (length lines) ∷ map cycle_line lines
 
-abbrev pub first_line : List ℕ
-first_line = codes "tml-seconds 1\n"
+abbrev pub seconds_first_line : List ℕ
+seconds_first_line = codes "tml-seconds 1\n"
 
-abbrev pub text_lines : PlainEvidence → Lines
-text_lines e = first_line ∷ (body_lines e ++ last_line ∷ [])
+abbrev pub seconds_text_lines : PlainSeconds → Lines
+seconds_text_lines e = seconds_first_line ∷ (seconds_body_lines e ++ last_line ∷ [])
 
 -- the text of a placing or a cycle
-abbrev pub IsText : PlainEvidence → List ℕ → Type 0
-IsText e text = IsWellFormed e × (text ≡ concat (text_lines e))
+abbrev pub IsSecondsText : PlainSeconds → List ℕ → Type 0
+IsSecondsText e text = IsWellFormedSeconds e × (text ≡ concat (seconds_text_lines e))

@@ -4,7 +4,7 @@ ghost use Rattle.line_texts.specs.Lines.{lines_of};
 ghost use Rattle.line_texts.specs.Reading.{line_at};
 ghost use Rattle.seconds_core.specs.Evidence.{ArePairs};
 ghost use Rattle.seconds_format.specs.Readers as readers;
-ghost use Rattle.seconds_format.specs.Texts.{pairs_of};
+ghost use Rattle.seconds_format.specs.Texts.{pairs_of_seconds};
 ghost use Rattle.seconds_format.specs.Words as words;
 ghost use Rattle.std.specs.Prelude.{IfOk, OnOk, length, ◌%◌, ◌*◌, ◌+◌, ◌<◌, ◌≡◌, ◌++◌, ◌∷◌, []};
 
@@ -20,7 +20,7 @@ pub fn placing_at<'t>(
     count: u32,
     text: &'t [u8],
 ) -> Result<(Placing, &'t [u8]), Stop<'t>>
-    ensures pairs { GivesOrStops (λ x. (pairs_of x.0, lines_of x.1.now)) result (readers.pairs_at count (lines_of text.now)) }
+    ensures pairs { GivesOrStops (λ x. (pairs_of_seconds x.0, lines_of x.1.now)) result (readers.pairs_at count (lines_of text.now)) }
     ensures placing { IfOk result (λ x. ArePairs x.0) }
 {
     let (seconds, rest) = pairs_at(alloc, count, text)?;
@@ -34,7 +34,7 @@ fn pairs_at<'t>(
     count: u32,
     text: &'t [u8],
 ) -> Result<(List<i64>, &'t [u8]), Stop<'t>>
-    ensures pairs { GivesOrStops (λ x. (pairs_of x.0, lines_of x.1.now)) result (readers.pairs_at count (lines_of text.now)) }
+    ensures pairs { GivesOrStops (λ x. (pairs_of_seconds x.0, lines_of x.1.now)) result (readers.pairs_at count (lines_of text.now)) }
     ensures size { IfOk result (λ x. length x.0 ≡ 2 * count) }
 {
     let mut seconds = List::new(alloc);
@@ -51,7 +51,7 @@ fn pairs_at<'t>(
 #[tactic(auto, using(crate::proofs::PairLaws::pairs_push))]
 fn push_pair(seconds: &mut List<i64>, start: i64, finish: i64) -> Result<(), Memory>
     requires { length seconds.old % 2 ≡ 0 }
-    ensures pairs { OnOk result (pairs_of seconds.new ≡ pairs_of seconds.old ++ (start, finish) ∷ []) }
+    ensures pairs { OnOk result (pairs_of_seconds seconds.new ≡ pairs_of_seconds seconds.old ++ (start, finish) ∷ []) }
     ensures size { OnOk result (length seconds.new ≡ length seconds.old + 2) }
 {
     seconds.push(start)?;

@@ -2,15 +2,15 @@
 ghost use Rattle.line_texts.specs.Given.{GivesOrStops};
 ghost use Rattle.line_texts.specs.Lines.{lines_of};
 ghost use Rattle.net_core.specs.Limits.{max_evidence};
-ghost use Rattle.seconds_core.specs.Evidence.{PlainEvidence};
+ghost use Rattle.seconds_core.specs.Evidence.{PlainSeconds};
 ghost use Rattle.seconds_core.specs.View.{evidence_of};
-ghost use Rattle.seconds_format.specs.Begun.{ReadsSeconds, TellsBadLine};
+ghost use Rattle.seconds_format.specs.Begun.{ReadsSeconds, TellsBadSecondsLine};
 ghost use Rattle.seconds_format.specs.Readers as readers;
-ghost use Rattle.seconds_format.specs.Texts.{IsText};
+ghost use Rattle.seconds_format.specs.Texts.{IsSecondsText};
 ghost use Rattle.std.specs.Prelude.{IfErr, IfOk, length, ◌≤◌};
 
 use crate::cycle::cycle_at;
-use crate::head::{Head, head_at};
+use crate::head::{SecondsHead, head_at};
 use crate::placing::placing_at;
 use line_texts::{ReadEvidence, Stop, end_at, refusal, same_at};
 use seconds_core::SecondsEvidence;
@@ -25,9 +25,9 @@ use std::alloc::Global;
 /// so far begin no text of a placing or a cycle, or the one that would come next where the text ends early.
 pub fn read_seconds(alloc: Global, text: &[u8]) -> Result<SecondsEvidence, ReadEvidence>
     requires { length text.now ≤ max_evidence }
-    ensures found { IfOk result (λ e. IsText (evidence_of e) text.now) }
-    ensures only { (e : PlainEvidence) → IsText e text.now → ReadsSeconds e result }
-    ensures fault { IfErr result (λ f. TellsBadLine text.now f) }
+    ensures found { IfOk result (λ e. IsSecondsText (evidence_of e) text.now) }
+    ensures only { (e : PlainSeconds) → IsSecondsText e text.now → ReadsSeconds e result }
+    ensures fault { IfErr result (λ f. TellsBadSecondsLine text.now f) }
 {
     match seconds_at(alloc, text) {
         Ok(evidence) => Ok(evidence),
@@ -59,17 +59,17 @@ fn body_at<'t>(alloc: Global, text: &'t [u8]) -> Result<(SecondsEvidence, &'t [u
 #[tactic(auto, unfolding(crate::specs::Readers::rest_at), using(crate::proofs::PairLaws::seconds_again))]
 fn rest_at<'t>(
     alloc: Global,
-    head: Head,
+    head: SecondsHead,
     text: &'t [u8],
 ) -> Result<(SecondsEvidence, &'t [u8]), Stop<'t>>
     ensures { GivesOrStops (λ x. (evidence_of x.0, lines_of x.1.now)) result (readers.rest_at head (lines_of text.now)) }
 {
     match head {
-        Head::Placing { intervals } => {
+        SecondsHead::Placing { intervals } => {
             let (placing, rest) = placing_at(alloc, intervals, text)?;
             Ok((SecondsEvidence::Placing(placing), rest))
         }
-        Head::Cycle { lines } => {
+        SecondsHead::Cycle { lines } => {
             let (cycle, rest) = cycle_at(alloc, lines, text)?;
             Ok((SecondsEvidence::Cycle(cycle), rest))
         }

@@ -1,7 +1,7 @@
 //! Writing placings and cycles.
 ghost use Rattle.seconds_core.specs.Evidence.{ArePairs, max_lines};
 ghost use Rattle.seconds_core.specs.View.{evidence_of};
-ghost use Rattle.seconds_format.specs.Texts.{HasNumbers, IsLong, IsPair, IsText, IsWellFormed, at_line, cycle_line, pairs_of};
+ghost use Rattle.seconds_format.specs.Texts.{HasLineNumbers, IsLong, IsLongPair, IsSecondsText, IsWellFormedSeconds, seconds_at_line, cycle_line, pairs_of_seconds};
 ghost use Rattle.seconds_format.specs.Written as written;
 ghost use Rattle.std.specs.Fmt.{signed_decimal};
 ghost use Rattle.std.specs.List.{All, AllByRecursion, flat_map};
@@ -19,7 +19,7 @@ use std::alloc::{AllocError, Global};
 ///
 /// Out of memory.
 pub fn write_seconds(alloc: Global, evidence: &SecondsEvidence) -> Result<List<u8>, Memory>
-    ensures { IfOk result (λ out. IsText (evidence_of evidence.now) out) }
+    ensures { IfOk result (λ out. IsSecondsText (evidence_of evidence.now) out) }
 {
     match text_bytes(alloc, evidence) {
         Ok(out) => Ok(List::from_vec(out)),
@@ -29,7 +29,7 @@ pub fn write_seconds(alloc: Global, evidence: &SecondsEvidence) -> Result<List<u
 
 fn text_bytes(alloc: Global, evidence: &SecondsEvidence) -> Result<Vec<u8>, AllocError>
     ensures bytes { IfOk result (λ out. out.items ≡ written.text_bytes (evidence_of evidence.now)) }
-    ensures good { IfOk result (λ out. IsWellFormed (evidence_of evidence.now)) }
+    ensures good { IfOk result (λ out. IsWellFormedSeconds (evidence_of evidence.now)) }
 {
     let mut out = Vec::from_slice(alloc, b"tml-seconds 1\n")?;
     push_body(&mut out, evidence)?;
@@ -39,8 +39,8 @@ fn text_bytes(alloc: Global, evidence: &SecondsEvidence) -> Result<Vec<u8>, Allo
 
 /// Appends what stands between the first line and the last one.
 fn push_body(out: &mut Vec<u8>, evidence: &SecondsEvidence) -> Result<(), AllocError>
-    ensures bytes { OnOk result (out.new.items ≡ out.old.items ++ written.body_bytes (evidence_of evidence.now)) }
-    ensures good { OnOk result (IsWellFormed (evidence_of evidence.now)) }
+    ensures bytes { OnOk result (out.new.items ≡ out.old.items ++ written.seconds_body_bytes (evidence_of evidence.now)) }
+    ensures good { OnOk result (IsWellFormedSeconds (evidence_of evidence.now)) }
 {
     match evidence {
         SecondsEvidence::Placing(placing) => push_placing(out, placing.as_slice()),
@@ -59,8 +59,8 @@ fn push_placing(out: &mut Vec<u8>, seconds: &[i64]) -> Result<(), AllocError>
 }
 
 fn push_pairs(out: &mut Vec<u8>, seconds: &[i64]) -> Result<(), AllocError>
-    ensures bytes { OnOk result (out.new.items ≡ out.old.items ++ flat_map at_line (pairs_of seconds.now)) }
-    ensures good { OnOk result (AllByRecursion IsPair (pairs_of seconds.now)) }
+    ensures bytes { OnOk result (out.new.items ≡ out.old.items ++ flat_map seconds_at_line (pairs_of_seconds seconds.now)) }
+    ensures good { OnOk result (AllByRecursion IsLongPair (pairs_of_seconds seconds.now)) }
 {
     let mut rest = seconds;
     while let [start, finish, after @ ..] = rest {
@@ -72,7 +72,7 @@ fn push_pairs(out: &mut Vec<u8>, seconds: &[i64]) -> Result<(), AllocError>
 
 /// The line of an interval.
 fn push_pair(out: &mut Vec<u8>, start: i64, finish: i64) -> Result<(), AllocError>
-    ensures { OnOk result (out.new.items ≡ out.old.items ++ at_line (start, finish)) }
+    ensures { OnOk result (out.new.items ≡ out.old.items ++ seconds_at_line (start, finish)) }
 {
     out.extend_from_slice(b"at ")?;
     push_second(out, start)?;
@@ -91,7 +91,7 @@ fn push_second(out: &mut Vec<u8>, second: i64) -> Result<(), AllocError>
 fn push_cycle(out: &mut Vec<u8>, lines: &[Line]) -> Result<(), AllocError>
     requires { length lines.now < max_lines }
     ensures bytes { OnOk result (out.new.items ≡ out.old.items ++ written.cycle_bytes lines.now) }
-    ensures good { OnOk result (All HasNumbers lines.now) }
+    ensures good { OnOk result (All HasLineNumbers lines.now) }
 {
     push_one(out, b"cycle ", lines.len() as u32)?;
     push_lines(out, lines)
@@ -99,7 +99,7 @@ fn push_cycle(out: &mut Vec<u8>, lines: &[Line]) -> Result<(), AllocError>
 
 fn push_lines(out: &mut Vec<u8>, lines: &[Line]) -> Result<(), AllocError>
     ensures bytes { OnOk result (out.new.items ≡ out.old.items ++ flat_map cycle_line lines.now) }
-    ensures good { OnOk result (All HasNumbers lines.now) }
+    ensures good { OnOk result (All HasLineNumbers lines.now) }
 {
     for line in lines {
         push_line(out, *line)?;
@@ -110,7 +110,7 @@ fn push_lines(out: &mut Vec<u8>, lines: &[Line]) -> Result<(), AllocError>
 /// What names a constraint.
 fn push_line(out: &mut Vec<u8>, line: Line) -> Result<(), AllocError>
     ensures line { OnOk result (out.new.items ≡ out.old.items ++ cycle_line line) }
-    ensures good { HasNumbers line }
+    ensures good { HasLineNumbers line }
 {
     match line {
         Line::Span { interval } => push_one(out, b"span ", interval),

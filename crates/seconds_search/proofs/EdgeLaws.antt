@@ -19,21 +19,21 @@ use Rattle.seconds_core.specs.declared.timed.Limits.{Limits}
 use Rattle.seconds_core.specs.Timed.{IsTimed, PlainTimed, origin}
 use Rattle.seconds_core.proofs.InRange.{limits_past, lower_past, upper_past}
 use Rattle.seconds_search.specs.declared.edges.Edge.{Edge}
-use Rattle.seconds_search.specs.Edges.{AreEdges, AreInside, Covers, CoversAll, Grows, IsEdge, IsInside, IsOfInterval, IsOfLink, IsOfPoint}
+use Rattle.seconds_search.specs.Edges.{AreConstraintEdges, AreInside, Covers, CoversAll, EdgesGrow, IsEdge, IsEdgeInside, IsOfInterval, IsLineOfLink, IsOfPoint}
 
-pub grows_on : (timed : PlainTimed) (a b c : List Edge) (m n count : ℕ) → m + n ≤ count → Grows timed a b m → Grows timed b c n → Grows timed a c count
+pub grows_on : (timed : PlainTimed) (a b c : List Edge) (m n count : ℕ) → m + n ≤ count → EdgesGrow timed a b m → EdgesGrow timed b c n → EdgesGrow timed a c count
 grows_on timed a b c m n count le g h = record { named = λ all. h.named (g.named all); kept = λ edge is. h.kept edge (g.kept edge is); few = omega (arith, le, g.few, h.few) }
 
-pub grows_not : (timed : PlainTimed) (a : List Edge) → Grows timed a a 0
+pub grows_not : (timed : PlainTimed) (a : List Edge) → EdgesGrow timed a a 0
 grows_not timed a = record { named = λ all. all; kept = λ edge is. is; few = omega arith }
 
-covers_yet : (timed : PlainTimed) (a b : List Edge) (n : ℕ) (line : Line) → Grows timed a b n → Covers timed a line → Covers timed b line
+covers_yet : (timed : PlainTimed) (a b : List Edge) (n : ℕ) (line : Line) → EdgesGrow timed a b n → Covers timed a line → Covers timed b line
 covers_yet timed a b n line g covers c named = g.kept (record { line = line; constraint = c }) (covers c named)
 
-pub covers_all_yet : (timed : PlainTimed) (a b : List Edge) (n : ℕ) (Kind : Line → Type 0) → Grows timed a b n → CoversAll timed a Kind → CoversAll timed b Kind
+pub covers_all_yet : (timed : PlainTimed) (a b : List Edge) (n : ℕ) (Kind : Line → Type 0) → EdgesGrow timed a b n → CoversAll timed a Kind → CoversAll timed b Kind
 covers_all_yet timed a b n Kind g covers line is = covers_yet timed a b n line g (covers line is)
 
-pub covers_interval : (timed : PlainTimed) (a b c : List Edge) (i : ℕ) → Covers timed a (Span i) → Grows timed a b 1 → Covers timed b (Least i) → Grows timed b c 1 → Covers timed c (Most i) → CoversAll timed c (IsOfInterval i)
+pub covers_interval : (timed : PlainTimed) (a b c : List Edge) (i : ℕ) → Covers timed a (Span i) → EdgesGrow timed a b 1 → Covers timed b (Least i) → EdgesGrow timed b c 1 → Covers timed c (Most i) → CoversAll timed c (IsOfInterval i)
 covers_interval timed a b c i first g second h third (Span j) is = subst (λ n. Covers timed c (Span n)) (sym is) (covers_yet timed b c 1 (Span i) h (covers_yet timed a b 1 (Span i) g first))
 covers_interval timed a b c i first g second h third (Least j) is = subst (λ n. Covers timed c (Least n)) (sym is) (covers_yet timed b c 1 (Least i) h second)
 covers_interval timed a b c i first g second h third (Most j) is = subst (λ n. Covers timed c (Most n)) (sym is) third
@@ -41,7 +41,7 @@ covers_interval timed a b c i first g second h third (Via link atom) is = absurd
 covers_interval timed a b c i first g second h third (Lower p) is = absurd is
 covers_interval timed a b c i first g second h third (Upper p) is = absurd is
 
-pub covers_point : (timed : PlainTimed) (a b : List Edge) (p : ℕ) → Covers timed a (Lower p) → Grows timed a b 1 → Covers timed b (Upper p) → CoversAll timed b (IsOfPoint p)
+pub covers_point : (timed : PlainTimed) (a b : List Edge) (p : ℕ) → Covers timed a (Lower p) → EdgesGrow timed a b 1 → Covers timed b (Upper p) → CoversAll timed b (IsOfPoint p)
 covers_point timed a b p first g second (Lower q) is = subst (λ n. Covers timed b (Lower n)) (sym is) (covers_yet timed a b 1 (Lower p) g first)
 covers_point timed a b p first g second (Upper q) is = subst (λ n. Covers timed b (Upper n)) (sym is) second
 covers_point timed a b p first g second (Span i) is = absurd is
@@ -54,7 +54,7 @@ none_made f None never = refl
 none_made f (Some x) never = absurd (never x refl)
 
 -- what is covered up to k, and then of k, is covered up to the next one
-pub all_covered : (Kind : ℕ → Line → Type 0) (timed : PlainTimed) (a b : List Edge) (n k : ℕ) → Grows timed a b n → ((j : ℕ) → j < k → CoversAll timed a (Kind j)) → CoversAll timed b (Kind k) → (j : ℕ) → j < k + 1 → CoversAll timed b (Kind j)
+pub all_covered : (Kind : ℕ → Line → Type 0) (timed : PlainTimed) (a b : List Edge) (n k : ℕ) → EdgesGrow timed a b n → ((j : ℕ) → j < k → CoversAll timed a (Kind j)) → CoversAll timed b (Kind k) → (j : ℕ) → j < k + 1 → CoversAll timed b (Kind j)
 all_covered Kind timed a b n k g before here j lt = elim (cases_lt j k) [
   | inl less ↦ covers_all_yet timed a b n (Kind j) g (before j less)
   | inr last ↦ let same : k ≡ j = omega (arith, last, lt) in subst (λ i. CoversAll timed b (Kind i)) same here
@@ -77,14 +77,14 @@ link_past timed link atom le = none_made constraint_by (atom_of timed.net (Link 
 nothing_named : (timed : PlainTimed) (edges : List Edge) (line : Line) → constraint_of timed line ≡ None → Covers timed edges line
 nothing_named timed edges line none c named = let both : None ≡ Some c = sym none ∙ named in absurd cc
 
-orders_covered : (timed : PlainTimed) (a b c d : List Edge) (k : ℕ) → Covers timed a (Via k 0) → Grows timed a b 1 → Covers timed b (Via k 1) → Grows timed b c 1 → Covers timed c (Via k 2) → Grows timed c d 1 → Covers timed d (Via k 3) → (atom : ℕ) → Covers timed d (Via k atom)
+orders_covered : (timed : PlainTimed) (a b c d : List Edge) (k : ℕ) → Covers timed a (Via k 0) → EdgesGrow timed a b 1 → Covers timed b (Via k 1) → EdgesGrow timed b c 1 → Covers timed c (Via k 2) → EdgesGrow timed c d 1 → Covers timed d (Via k 3) → (atom : ℕ) → Covers timed d (Via k atom)
 orders_covered timed a b c d k first g second h third i fourth zero = covers_yet timed c d 1 (Via k 0) i (covers_yet timed b c 1 (Via k 0) h (covers_yet timed a b 1 (Via k 0) g first))
 orders_covered timed a b c d k first g second h third i fourth (suc zero) = covers_yet timed c d 1 (Via k 1) i (covers_yet timed b c 1 (Via k 1) h second)
 orders_covered timed a b c d k first g second h third i fourth (suc (suc zero)) = covers_yet timed c d 1 (Via k 2) i third
 orders_covered timed a b c d k first g second h third i fourth (suc (suc (suc zero))) = fourth
 orders_covered timed a b c d k first g second h third i fourth (suc (suc (suc (suc n)))) = nothing_named timed d (Via k (suc (suc (suc (suc n))))) (via_past timed k (suc (suc (suc (suc n)))) (omega arith))
 
-pub covers_link : (timed : PlainTimed) (a b c d : List Edge) (k : ℕ) → Covers timed a (Via k 0) → Grows timed a b 1 → Covers timed b (Via k 1) → Grows timed b c 1 → Covers timed c (Via k 2) → Grows timed c d 1 → Covers timed d (Via k 3) → CoversAll timed d (IsOfLink k)
+pub covers_link : (timed : PlainTimed) (a b c d : List Edge) (k : ℕ) → Covers timed a (Via k 0) → EdgesGrow timed a b 1 → Covers timed b (Via k 1) → EdgesGrow timed b c 1 → Covers timed c (Via k 2) → EdgesGrow timed c d 1 → Covers timed d (Via k 3) → CoversAll timed d (IsLineOfLink k)
 covers_link timed a b c d k first g second h third i fourth (Via link atom) is = subst (λ n. Covers timed d (Via n atom)) (sym is) (orders_covered timed a b c d k first g second h third i fourth atom)
 covers_link timed a b c d k first g second h third i fourth (Span j) is = absurd is
 covers_link timed a b c d k first g second h third i fourth (Least j) is = absurd is
@@ -96,7 +96,7 @@ covers_link timed a b c d k first g second h third i fourth (Upper p) is = absur
 module _ (timed : PlainTimed) (edges : List Edge) (is : IsTimed timed)
     (by_interval : (i : ℕ) → i < intervals timed.net → CoversAll timed edges (IsOfInterval i))
     (by_point : (p : ℕ) → p < points timed.net → CoversAll timed edges (IsOfPoint p))
-    (by_link : (k : ℕ) → k < length timed.net.links → CoversAll timed edges (IsOfLink k)) where
+    (by_link : (k : ℕ) → k < length timed.net.links → CoversAll timed edges (IsLineOfLink k)) where
   whole : (line : Line) → Covers timed edges line
   whole (Span i) = elim (cases_lt i (intervals timed.net)) [ inl lt ↦ by_interval i lt (Span i) refl | inr ge ↦ nothing_named timed edges (Span i) (let past = le-ltb i (intervals timed.net) (omega (arith, ge)) in rw past refl) ]
   whole (Least i) = elim (cases_lt i (intervals timed.net)) [ inl lt ↦ by_interval i lt (Least i) refl | inr ge ↦ nothing_named timed edges (Least i) (ap (λ (l : Limits). option_map (λ n. at_most (2 * i + 1) (2 * i) (neg_ℤ n)) l.least) (limits_past timed i is (omega (arith, ge)))) ]
@@ -105,11 +105,11 @@ module _ (timed : PlainTimed) (edges : List Edge) (is : IsTimed timed)
   whole (Upper p) = elim (cases_lt p (points timed.net)) [ inl lt ↦ by_point p lt (Upper p) refl | inr ge ↦ nothing_named timed edges (Upper p) (ap (option_map (λ n. at_most (origin timed) p n)) (upper_past timed p (omega (arith, ge)))) ]
   whole (Via k atom) = elim (cases_lt k (length timed.net.links)) [ inl lt ↦ by_link k lt (Via k atom) refl | inr ge ↦ nothing_named timed edges (Via k atom) (link_past timed k atom (omega (arith, ge))) ]
 
-pub edges_are : (timed : PlainTimed) (a b c d : List Edge) (m n o : ℕ) → IsTimed timed → a ≡ [] → Grows timed a b m → Grows timed b c n → Grows timed c d o
+pub edges_are : (timed : PlainTimed) (a b c d : List Edge) (m n o : ℕ) → IsTimed timed → a ≡ [] → EdgesGrow timed a b m → EdgesGrow timed b c n → EdgesGrow timed c d o
     → ((i : ℕ) → i < intervals timed.net → CoversAll timed b (IsOfInterval i))
     → ((p : ℕ) → p < points timed.net → CoversAll timed c (IsOfPoint p))
-    → ((k : ℕ) → k < length timed.net.links → CoversAll timed d (IsOfLink k))
-    → AreEdges timed d
+    → ((k : ℕ) → k < length timed.net.links → CoversAll timed d (IsLineOfLink k))
+    → AreConstraintEdges timed d
 edges_are timed a b c d m n o is none g h i by_interval by_point by_link = record {
   named = i.named (h.named (g.named (subst (All (IsEdge timed)) (sym none) (All-nil (IsEdge timed)))));
   whole = whole timed d is
@@ -118,12 +118,12 @@ edges_are timed a b c d m n o is none g h i by_interval by_point by_link = recor
 }
 
 -- the same edges in another order are all constraints too
-pub edges_sorted : (timed : PlainTimed) (edges sorted : List Edge) → AreEdges timed edges → IsPermutation edges sorted → AreEdges timed sorted
+pub edges_sorted : (timed : PlainTimed) (edges sorted : List Edge) → AreConstraintEdges timed edges → IsPermutation edges sorted → AreConstraintEdges timed sorted
 edges_sorted timed edges sorted are same = record {
   named = All-weaker (Contains sorted) (IsEdge timed) (λ edge in_sorted. All-contains (IsEdge timed) edges edge are.named (Contains-permutation sorted edges edge (IsPermutation-sym edges sorted same) in_sorted)) sorted (All-contains_itself sorted);
   whole = λ line con named. Contains-permutation edges sorted (record { line = line; constraint = con }) same (are.whole line con named);
 }
 
 -- so they are between points
-pub edges_inside : (timed : PlainTimed) (edges : List Edge) → AreEdges timed edges → AreInside (origin timed + 1) edges
-edges_inside timed edges are = All-weaker (IsEdge timed) (IsInside (origin timed + 1)) (λ edge is. record { from = omega (arith, is.1.from); to = omega (arith, is.1.to); low = is.1.low; high = is.1.high }) edges are.named
+pub edges_inside : (timed : PlainTimed) (edges : List Edge) → AreConstraintEdges timed edges → AreInside (origin timed + 1) edges
+edges_inside timed edges are = All-weaker (IsEdge timed) (IsEdgeInside (origin timed + 1)) (λ edge is. record { from = omega (arith, is.1.from); to = omega (arith, is.1.to); low = is.1.low; high = is.1.high }) edges are.named

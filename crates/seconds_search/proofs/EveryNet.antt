@@ -15,8 +15,8 @@ use Rattle.seconds_core.specs.declared.line.Line.TheVariants.{Span, Via, Lower, 
 use Rattle.seconds_core.proofs.InRange.{named_within}
 use Rattle.seconds_search.specs.declared.edges.Edge.{Edge}
 use Rattle.seconds_search.specs.Decided.{EveryNetIsDecided, IsFar, IsShortCycle}
-use Rattle.seconds_search.specs.Edges.{AreEdges, Covers, CoversAll, Grows, IsEdge, IsOfInterval, IsOfLink, IsOfPoint, line_at}
-use Rattle.seconds_search.specs.Relaxation.{AreMet, IsClosed, IsNear, IsRelaxed, IsTooLow, PlainDistances, constraint_at, lowest, predecessor, total}
+use Rattle.seconds_search.specs.Edges.{AreConstraintEdges, Covers, CoversAll, EdgesGrow, IsEdge, IsOfInterval, IsLineOfLink, IsOfPoint, edge_line}
+use Rattle.seconds_search.specs.Relaxation.{AreMet, IsClosedTrail, IsNear, IsRelaxed, IsTooLow, PlainDistances, constraint_at, lowest, predecessor, total}
 use Rattle.seconds_search.proofs.EdgeLaws.{all_covered, covers_interval, covers_link, covers_point, edges_are, edges_inside, grows_not, grows_on}
 use Rattle.seconds_search.proofs.Relaxing.{at_zero, edge_inside, relaxed, relaxed_at_zero, stays_relaxed, total_less}
 use Rattle.seconds_search.proofs.Settling.{settled_is_placed}
@@ -24,7 +24,7 @@ use Rattle.seconds_search.proofs.Trails.{IsWalked, closed_is_negative, free, fre
 
 -- ---- all edges
 
-edge_named : (timed : PlainTimed) (old : List Edge) (line : Line) (c : Option Constraint) → IsTimed timed → constraint_of timed line ≡ c → (new : List Edge) × Grows timed old new 1 × Covers timed new line
+edge_named : (timed : PlainTimed) (old : List Edge) (line : Line) (c : Option Constraint) → IsTimed timed → constraint_of timed line ≡ c → (new : List Edge) × EdgesGrow timed old new 1 × Covers timed new line
 edge_named timed old line None is none = (old, grows_on timed old old old 0 0 1 (omega arith) (grows_not timed old) (grows_not timed old), λ c named. let both : None ≡ Some c = sym none ∙ named in absurd cc)
 edge_named timed old line (Some c) is here =
     let edge : Edge = record { line = line; constraint = c } in (
@@ -37,14 +37,14 @@ edge_named timed old line (Some c) is here =
       λ d named. let both : Some c ≡ Some d = sym here ∙ named in let same : c ≡ d = cc in subst (λ (x : Constraint). Contains (old ++ edge ∷ []) (record { line = line; constraint = x })) same (Contains-push old edge),
     )
 
-one_edge : (timed : PlainTimed) → IsTimed timed → (old : List Edge) (line : Line) → (new : List Edge) × Grows timed old new 1 × Covers timed new line
+one_edge : (timed : PlainTimed) → IsTimed timed → (old : List Edge) (line : Line) → (new : List Edge) × EdgesGrow timed old new 1 × Covers timed new line
 one_edge timed is old line = edge_named timed old line (constraint_of timed line) is refl
 
 -- edges that cover the lines of a kind with one number, made of any
 abbrev pub Coverer : PlainTimed → (ℕ → Line → Type 0) → Type 0
-Coverer timed Kind = (k : ℕ) (old : List Edge) → (new : List Edge) × (n : ℕ) × Grows timed old new n × CoversAll timed new (Kind k)
+Coverer timed Kind = (k : ℕ) (old : List Edge) → (new : List Edge) × (n : ℕ) × EdgesGrow timed old new n × CoversAll timed new (Kind k)
 
-up_to : (timed : PlainTimed) (Kind : ℕ → Line → Type 0) → Coverer timed Kind → (n : ℕ) (old : List Edge) → (new : List Edge) × (m : ℕ) × Grows timed old new m × ((k : ℕ) → k < n → CoversAll timed new (Kind k))
+up_to : (timed : PlainTimed) (Kind : ℕ → Line → Type 0) → Coverer timed Kind → (n : ℕ) (old : List Edge) → (new : List Edge) × (m : ℕ) × EdgesGrow timed old new m × ((k : ℕ) → k < n → CoversAll timed new (Kind k))
 up_to timed Kind one zero old = (old, 0, grows_not timed old, λ k lt. absurd (omega (arith, lt)))
 up_to timed Kind one (suc n) old =
     let (before, m, grows, covers) = up_to timed Kind one n old in
@@ -69,7 +69,7 @@ module _ (timed : PlainTimed) (is : IsTimed timed) where
       let (b, second, two) = one_edge timed is a (Upper p) in
       (b, 2, grows_on timed old a b 1 1 2 (omega arith) first second, covers_point timed a b p one second two)
 
-  a_link : Coverer timed IsOfLink
+  a_link : Coverer timed IsLineOfLink
   a_link k old =
       let (a, first, one) = one_edge timed is old (Via k 0) in
       let (b, second, two) = one_edge timed is a (Via k 1) in
@@ -77,11 +77,11 @@ module _ (timed : PlainTimed) (is : IsTimed timed) where
       let (d, fourth, four) = one_edge timed is c (Via k 3) in
       (d, 4, grows_on timed old b d 2 2 4 (omega arith) (grows_on timed old a b 1 1 2 (omega arith) first second) (grows_on timed b c d 1 1 2 (omega arith) third fourth), covers_link timed a b c d k one second two third three fourth four)
 
-  all_edges : (edges : List Edge) × AreEdges timed edges
+  all_edges : (edges : List Edge) × AreConstraintEdges timed edges
   all_edges =
       let (b, m, g, by_interval) = up_to timed IsOfInterval an_interval (intervals timed.net) [] in
       let (c, n, h, by_point) = up_to timed IsOfPoint a_point (points timed.net) b in
-      let (d, o, i, by_link) = up_to timed IsOfLink a_link (length timed.net.links) c in
+      let (d, o, i, by_link) = up_to timed IsLineOfLink a_link (length timed.net.links) c in
       (d, edges_are timed [] b c d m n o is refl g h i by_interval by_point by_link)
 
 -- one second is before another, or it is not
@@ -99,7 +99,7 @@ module _ (edges : List Edge) where
   Settled size = (d : PlainDistances) × IsRelaxed edges d × AreMet edges d.seconds × (length d.seconds ≡ size)
 
   abbrev Cyclic : ℕ → Type 0
-  Cyclic size = (d : PlainDistances) × IsRelaxed edges d × (length d.seconds ≡ size) × ((trail : List ℕ) × (p : ℕ) × IsClosed edges d trail p)
+  Cyclic size = (d : PlainDistances) × IsRelaxed edges d × (length d.seconds ≡ size) × ((trail : List ℕ) × (p : ℕ) × IsClosedTrail edges d trail p)
 
   unmet : (seconds : List ℤ) (n : ℕ) → n ≤ length edges → ((e : ℕ) → e < n → IsMet seconds (constraint_at edges e)) ⊎ ((e : ℕ) × (e < length edges) × ((second_at seconds (constraint_at edges e).from +ℤ (constraint_at edges e).weight) <ℤ second_at seconds (constraint_at edges e).to))
   unmet seconds zero le = inl (λ e lt. absurd (omega (arith, lt)))
@@ -115,7 +115,7 @@ module _ (edges : List Edge) where
   ]
 
   module _ (d : PlainDistances) (is : IsRelaxed edges d) (from : ℕ) (deep : IsTooLow d.seconds from) where
-    walked : (n : ℕ) (trail : List ℕ) (places : List (Option ℕ)) (point : ℕ) → free places < n → IsWalked edges d from trail places point → (closed : List ℕ) × (p : ℕ) × IsClosed edges d closed p
+    walked : (n : ℕ) (trail : List ℕ) (places : List (Option ℕ)) (point : ℕ) → free places < n → IsWalked edges d from trail places point → (closed : List ℕ) × (p : ℕ) × IsClosedTrail edges d closed p
     walked zero trail places point few so_far = absurd (omega (arith, few))
     walked (suc n) trail places point few so_far = elim (none_or_some (predecessor d.predecessors point)) [
       | inl root ↦ absurd (walk_ends edges d is from trail places point so_far root deep)
@@ -165,7 +165,7 @@ counted_from seconds n lt near =
           (omega (arith, ints, is, here.0, last.1), omega (arith, ints, is, here.1, last.0))),
     )
 
-module _ (timed : PlainTimed) (is : IsTimed timed) (edges : List Edge) (are : AreEdges timed edges) where
+module _ (timed : PlainTimed) (is : IsTimed timed) (edges : List Edge) (are : AreConstraintEdges timed edges) where
   placed : Settled edges (origin timed + 1) → (seconds : List ℤ) × IsPlaced timed seconds × All IsFar seconds
   placed (d, relaxed, met, size) =
       let (counted, count, at, far) = counted_from d.seconds (origin timed) (omega (arith, size)) relaxed.near in (
@@ -177,8 +177,8 @@ module _ (timed : PlainTimed) (is : IsTimed timed) (edges : List Edge) (are : Ar
 
   cycle : Cyclic edges (origin timed + 1) → (lines : List Line) × IsShortCycle timed lines
   cycle (d, relaxed, size, (trail, p, closed)) =
-      let lines = map (line_at edges) trail in
-      (reverse lines, (closed_is_negative timed edges d relaxed are.named trail p closed, omega (arith, length-reverse lines, length-map trail (line_at edges), closed.few, size)))
+      let lines = map (edge_line edges) trail in
+      (reverse lines, (closed_is_negative timed edges d relaxed are.named trail p closed, omega (arith, length-reverse lines, length-map trail (edge_line edges), closed.few, size)))
 
 pub every_net_is_decided : EveryNetIsDecided
 every_net_is_decided timed is =
@@ -189,5 +189,5 @@ every_net_is_decided timed is =
     let ended = settled edges (suc (total (at_zero n).seconds)) (at_zero n) (omega arith) begun in
     elim (subst (λ (m : ℕ). Settled edges m ⊎ Cyclic edges m) (length-replicate n (pos 0)) ended) [
       | inl settled ↦ inl (placed timed is edges are settled)
-      | inr round ↦ inr (cycle timed is edges are round)
+      | inr closed ↦ inr (cycle timed is edges are closed)
     ]

@@ -9,14 +9,14 @@ use Rattle.seconds_core.specs.Placed.{second_at}
 use Rattle.seconds_core.specs.declared.line.Constraint.{Constraint}
 use Rattle.seconds_core.specs.declared.line.Line.TheVariants.{Span}
 use Rattle.seconds_search.specs.declared.edges.Edge.{Edge}
-use Rattle.seconds_search.specs.Edges.{AreInside, IsInside, edge_at}
+use Rattle.seconds_search.specs.Edges.{AreInside, IsEdgeInside, edge_at}
 use Rattle.seconds_search.specs.Relaxation.{IsNear, IsPredecessor, IsRelaxed, IsTrail, PlainDistances, constraint_at, height, lowest, max_rounds, predecessor, total, weight_of}
 
 abbrev pub no_edge : Edge
 no_edge = record { line = Span 0; constraint = at_most 0 0 (pos 0) }
 
-pub edge_inside : (n : ℕ) (edges : List Edge) (e : ℕ) → AreInside n edges → e < length edges → IsInside n (edge_at edges e)
-edge_inside n edges e inside lt = All-get_or (IsInside n) edges e no_edge lt inside
+pub edge_inside : (n : ℕ) (edges : List Edge) (e : ℕ) → AreInside n edges → e < length edges → IsEdgeInside n (edge_at edges e)
+edge_inside n edges e inside lt = All-get_or (IsEdgeInside n) edges e no_edge lt inside
 
 -- ---- the beginning
 
@@ -64,7 +64,7 @@ module _ (edges : List Edge) (d : PlainDistances) (is : IsRelaxed edges d) (e : 
   abbrev pub relaxed : PlainDistances
   relaxed = record { seconds = set d.seconds c.to s; predecessors = set d.predecessors c.to (Some e) }
 
-  inside : IsInside (length d.seconds) (edge_at edges e)
+  inside : IsEdgeInside (length d.seconds) (edge_at edges e)
   inside = edge_inside (length d.seconds) edges e is.inside lt
 
   second_here : (p : ℕ) → p ≡ c.to → second_at relaxed.seconds p ≡ s
@@ -125,9 +125,9 @@ module _ (edges : List Edge) (d : PlainDistances) (is : IsRelaxed edges d) (e : 
   closing (suc n) p rest front short on back = elim (split rest c.from p on) [
     | inl old ↦ omega (arith, ints, trail_weighs edges d is c.from rest p old, trail_weighs edges d is p front c.to back, led, lower)
     | inr parts ↦
-        let round = trail_weighs edges d is c.from parts.front c.to parts.before in
+        let closed = trail_weighs edges d is c.from parts.front c.to parts.before in
         let others = closing n p parts.rest front (omega (arith, short, parts.shorter)) parts.after back in
-        omega (arith, ints, round, others, parts.weight, led, lower)
+        omega (arith, ints, closed, others, parts.weight, led, lower)
   ]
 
   negative_now : (p f : ℕ) (trail : List ℕ) → IsTrail edges relaxed.predecessors p (f ∷ trail) p → weight_of edges (f ∷ trail) <ℤ pos 0

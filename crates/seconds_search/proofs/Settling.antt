@@ -10,11 +10,11 @@ use Rattle.seconds_core.specs.Placed.{IsPlaced, second_at}
 use Rattle.seconds_core.specs.Timed.{IsTimed, PlainTimed, origin}
 use Rattle.seconds_core.proofs.Kept.{constraints_say_what_is_placed}
 use Rattle.seconds_search.specs.declared.edges.Edge.{Edge}
-use Rattle.seconds_search.specs.Edges.{AreEdges, IsEdge, edge_at}
+use Rattle.seconds_search.specs.Edges.{AreConstraintEdges, IsEdge, edge_at}
 use Rattle.seconds_search.specs.Relaxation.{AreMet}
 use Rattle.seconds_search.proofs.Relaxing.{no_edge}
 
-pub settled_is_placed : (timed : PlainTimed) (edges : List Edge) (seconds counted : List ℤ) → IsTimed timed → AreEdges timed edges → length seconds ≡ origin timed + 1 → AreMet edges seconds
+pub settled_is_placed : (timed : PlainTimed) (edges : List Edge) (seconds counted : List ℤ) → IsTimed timed → AreConstraintEdges timed edges → length seconds ≡ origin timed + 1 → AreMet edges seconds
     → length counted + 1 ≡ length seconds
     → ((p : ℕ) → p < length counted → second_at counted p ≡ second_at seconds p -ℤ second_at seconds (length counted))
     → IsPlaced timed counted

@@ -10,8 +10,8 @@ use Rattle.seconds_core.specs.Cycles.{LeadFromTo, IsNegative, sum_of, weight_in}
 use Rattle.seconds_core.specs.Timed.{PlainTimed, max_second}
 use Rattle.seconds_core.specs.declared.line.Line.{Line}
 use Rattle.seconds_search.specs.declared.edges.Edge.{Edge}
-use Rattle.seconds_search.specs.Edges.{IsEdge, line_at}
-use Rattle.seconds_search.specs.Relaxation.{IsClosed, IsRelaxed, IsTooLow, IsTrail, PlainDistances, constraint_at, predecessor, weight_of}
+use Rattle.seconds_search.specs.Edges.{IsEdge, edge_line}
+use Rattle.seconds_search.specs.Relaxation.{IsClosedTrail, IsRelaxed, IsTooLow, IsTrail, PlainDistances, constraint_at, predecessor, weight_of}
 use Rattle.seconds_search.proofs.Relaxing.{edge_inside, filled, no_edge, trail_weighs}
 
 -- ---- places of points on the way
@@ -82,7 +82,7 @@ module _ (edges : List Edge) (d : PlainDistances) (is : IsRelaxed edges d) where
 
   module _ (from : ℕ) (trail : List ℕ) (places : List (Option ℕ)) (point : ℕ) (walked : IsWalked edges d from trail places point) where
     -- where the point has a place already, the way leads back to it
-    pub walk_closes : (k : ℕ) → predecessor places point ≡ Some k → IsClosed edges d (drop k trail) point
+    pub walk_closes : (k : ℕ) → predecessor places point ≡ Some k → IsClosedTrail edges d (drop k trail) point
     walk_closes k at =
         let (lt, mine) = walked.placed point k at in
         let (x, its, on) = trail_from edges d.predecessors trail k from point lt walked.way in
@@ -132,21 +132,21 @@ sum_push timed (first ∷ lines) line = omega (arith, ints, sum_push timed lines
 
 module _ (timed : PlainTimed) (edges : List Edge) (d : PlainDistances) (is : IsRelaxed edges d) (named : All (IsEdge timed) edges) where
   -- the lines of a trail, turned round, lead on to where it began, and their sum is its weight
-  leads : (trail : List ℕ) (p q : ℕ) → IsTrail edges d.predecessors p trail q → LeadFromTo timed (reverse (map (line_at edges) trail)) q p × (sum_of timed (reverse (map (line_at edges) trail)) ≡ weight_of edges trail)
+  leads : (trail : List ℕ) (p q : ℕ) → IsTrail edges d.predecessors p trail q → LeadFromTo timed (reverse (map (edge_line edges) trail)) q p × (sum_of timed (reverse (map (edge_line edges) trail)) ≡ weight_of edges trail)
   leads [] p q same = (sym same, refl)
   leads (e ∷ trail) p q (at, on) =
       let edge = is.lowered p e at in
-      let its : constraint_of timed (line_at edges e) ≡ Some (constraint_at edges e) = (All-get_or (IsEdge timed) edges e no_edge edge.edge named).0 in
+      let its : constraint_of timed (edge_line edges e) ≡ Some (constraint_at edges e) = (All-get_or (IsEdge timed) edges e no_edge edge.edge named).0 in
       let (joined, sum) = leads trail (constraint_at edges e).from q on in
-      let lines = reverse (map (line_at edges) trail) in
-      let turned = reverse-append (line_at edges e ∷ []) (map (line_at edges) trail) in
-      let all = joined_push timed lines (line_at edges e) q (constraint_at edges e).from p joined (constraint_at edges e, its, refl, edge.to) in
+      let lines = reverse (map (edge_line edges) trail) in
+      let turned = reverse-append (edge_line edges e ∷ []) (map (edge_line edges) trail) in
+      let all = joined_push timed lines (edge_line edges e) q (constraint_at edges e).from p joined (constraint_at edges e, its, refl, edge.to) in
       let weighs = ap weight_in its in (
         subst (λ (ls : List Line). LeadFromTo timed ls q p) (sym turned) all,
-        ap (sum_of timed) turned ∙ omega (arith, ints, sum_push timed lines (line_at edges e), sum, weighs),
+        ap (sum_of timed) turned ∙ omega (arith, ints, sum_push timed lines (edge_line edges e), sum, weighs),
       )
 
-  pub closed_is_negative : (trail : List ℕ) (p : ℕ) → IsClosed edges d trail p → IsNegative timed (reverse (map (line_at edges) trail))
+  pub closed_is_negative : (trail : List ℕ) (p : ℕ) → IsClosedTrail edges d trail p → IsNegative timed (reverse (map (edge_line edges) trail))
   closed_is_negative [] p closed = absurd (omega (arith, closed.some))
   closed_is_negative (e ∷ trail) p closed =
       let (joined, sum) = leads (e ∷ trail) p p closed.back in

@@ -6,13 +6,13 @@ use Rattle.seconds_search.specs.declared.ranking.Search.{Search}
 use Rattle.seconds_search.specs.Edges.{AreInside}
 
 -- a number is one of n edges, if there is one
-abbrev pub IsNumber : ℕ → Option ℕ → Type 0
-IsNumber n number = IfSome number (λ k. k < n)
+abbrev pub IsEdgeNumber : ℕ → Option ℕ → Type 0
+IsEdgeNumber n number = IfSome number (λ k. k < n)
 
-pub record IsSearch (edges : List Edge) (search : Search) : Type 0 where
+pub record IsEdgeSearch (edges : List Edge) (search : Search) : Type 0 where
   pub inside : AreInside (length search.next.items) edges
-  pub next : All (IsNumber (length edges)) search.next.items
-  pub before : All (IsNumber (length edges)) search.before.items
+  pub next : All (IsEdgeNumber (length edges)) search.next.items
+  pub before : All (IsEdgeNumber (length edges)) search.before.items
   pub size : length search.before.items ≡ length edges
   pub seen : length search.is_seen.items ≡ length search.next.items
   pub ranks : length search.ranks.items ≡ length search.next.items

@@ -87,7 +87,7 @@ abbrev pub RelaxesAll : List Edge → PlainDistances → PlainDistances → Opti
 RelaxesAll edges old new found = MatchOption found (AreMet edges new.seconds) (λ p. (p < length new.seconds) × ((total new.seconds < total old.seconds) ⊎ IsTooLow new.seconds p))
 
 -- edges that lead back from a point to it, no more than there are points
-pub record IsClosed (edges : List Edge) (distances : PlainDistances) (trail : List ℕ) (p : ℕ) : Type 0 where
+pub record IsClosedTrail (edges : List Edge) (distances : PlainDistances) (trail : List ℕ) (p : ℕ) : Type 0 where
   pub back : IsTrail edges distances.predecessors p trail p
   pub some : 0 < length trail
   pub few : length trail ≤ length distances.seconds

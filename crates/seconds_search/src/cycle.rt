@@ -1,8 +1,8 @@
 //! The negative cycle that predecessors lead back round.
 ghost use Rattle.std.specs.Prelude.{IfOk, IfSome, IsSome, MatchOption, drop, length, map, ℕ, ◌<◌, ◌≡◌, ◌≤◌};
 ghost use Rattle.std.specs.List.{All};
-ghost use Rattle.seconds_search.specs.Relaxation.{AreNegative, IsClosed, IsRelaxed, IsTooLow, constraint_at};
-ghost use Rattle.seconds_search.specs.Edges.{line_at};
+ghost use Rattle.seconds_search.specs.Relaxation.{AreNegative, IsClosedTrail, IsRelaxed, IsTooLow, constraint_at};
+ghost use Rattle.seconds_search.specs.Edges.{edge_line};
 
 use crate::edges::Edge;
 use crate::relaxation::Distances;
@@ -45,7 +45,7 @@ fn closed_trail(
 ) -> Result<Option<Vec<usize>>, Memory>
     requires relaxed { IsRelaxed edges.now distances.now }
     requires from { from < length distances.now.seconds }
-    ensures { IfOk result (λ found. MatchOption found (IsTooLow distances.now.seconds from → ⊥) (λ trail. (p : ℕ) × IsClosed edges.now distances.now trail.items p)) }
+    ensures { IfOk result (λ found. MatchOption found (IsTooLow distances.now.seconds from → ⊥) (λ trail. (p : ℕ) × IsClosedTrail edges.now distances.now trail.items p)) }
 {
     let mut trail = Vec::new(alloc);
     let Ok(mut places) = vec![in alloc; None; distances.len()] else {
@@ -85,7 +85,7 @@ fn rest_of(alloc: Global, numbers: &[usize], first: usize) -> Result<Vec<usize>,
 /// The lines of edges.
 fn lines_of(alloc: Global, edges: &[Edge], numbers: &[usize]) -> Result<Vec<Line>, Memory>
     requires { All (λ e. e < length edges.now) numbers.now }
-    ensures { IfOk result (λ lines. lines.items ≡ map (line_at edges.now) numbers.now) }
+    ensures { IfOk result (λ lines. lines.items ≡ map (edge_line edges.now) numbers.now) }
 {
     let mut lines = Vec::new(alloc);
     for number in numbers {

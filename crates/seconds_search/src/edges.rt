@@ -3,7 +3,7 @@ ghost use Rattle.net_core.specs.Nets.{intervals, points};
 ghost use Rattle.seconds_core.specs.Timed.{IsTimed};
 ghost use Rattle.std.specs.Prelude.{IfOk, OnOk, length, slice_index, ℕ, ◌+◌, ◌*◌, ◌<◌, ◌≡◌, ◌≤◌};
 ghost use Rattle.seconds_search.specs.Edges as spec;
-ghost use Rattle.seconds_search.specs.Edges.{AreEdges, CoversAll, Grows, IsOfInterval, IsOfLink, IsOfPoint};
+ghost use Rattle.seconds_search.specs.Edges.{AreConstraintEdges, CoversAll, EdgesGrow, IsOfInterval, IsLineOfLink, IsOfPoint};
 
 use crate::ranking::ranks_of;
 use net_core::Memory;
@@ -23,7 +23,7 @@ pub struct Edge {
 ///
 /// Out of memory.
 pub fn edges_of(alloc: Global, timed: &Timed) -> Result<Vec<Edge>, Memory>
-    ensures { IfOk result (λ edges. AreEdges timed.now edges.items) }
+    ensures { IfOk result (λ edges. AreConstraintEdges timed.now edges.items) }
 {
     let points = timed.origin() + 1;
     let mut edges = all_edges(alloc, timed)?;
@@ -35,7 +35,7 @@ pub fn edges_of(alloc: Global, timed: &Timed) -> Result<Vec<Edge>, Memory>
 /// The edges of intervals, of points and of links.
 fn all_edges(alloc: Global, timed: &Timed) -> Result<Vec<Edge>, Memory>
     requires { IsTimed timed.now }
-    ensures edges { IfOk result (λ edges. AreEdges timed.now edges.items) }
+    ensures edges { IfOk result (λ edges. AreConstraintEdges timed.now edges.items) }
     ensures few { IfOk result (λ edges. length edges.items < 65536) }
 {
     let mut edges = Vec::new(alloc);
@@ -56,7 +56,7 @@ fn rank_of(ranks: &[usize], edge: &Edge) -> usize
 }
 
 fn push_intervals(edges: &mut Vec<Edge>, timed: &Timed) -> Result<(), Memory>
-    ensures grows { OnOk result (Grows timed.now edges.old.items edges.new.items (3 * intervals timed.now.net)) }
+    ensures grows { OnOk result (EdgesGrow timed.now edges.old.items edges.new.items (3 * intervals timed.now.net)) }
     ensures covers { OnOk result ((i : ℕ) → i < intervals timed.now.net → CoversAll timed.now edges.new.items (IsOfInterval i)) }
 {
     for interval in 0..timed.net().intervals() {
@@ -66,7 +66,7 @@ fn push_intervals(edges: &mut Vec<Edge>, timed: &Timed) -> Result<(), Memory>
 }
 
 fn push_points(edges: &mut Vec<Edge>, timed: &Timed) -> Result<(), Memory>
-    ensures grows { OnOk result (Grows timed.now edges.old.items edges.new.items (2 * points timed.now.net)) }
+    ensures grows { OnOk result (EdgesGrow timed.now edges.old.items edges.new.items (2 * points timed.now.net)) }
     ensures covers { OnOk result ((p : ℕ) → p < points timed.now.net → CoversAll timed.now edges.new.items (IsOfPoint p)) }
 {
     for point in 0..timed.origin() {
@@ -76,8 +76,8 @@ fn push_points(edges: &mut Vec<Edge>, timed: &Timed) -> Result<(), Memory>
 }
 
 fn push_links(edges: &mut Vec<Edge>, timed: &Timed) -> Result<(), Memory>
-    ensures grows { OnOk result (Grows timed.now edges.old.items edges.new.items (4 * length timed.now.net.links)) }
-    ensures covers { OnOk result ((k : ℕ) → k < length timed.now.net.links → CoversAll timed.now edges.new.items (IsOfLink k)) }
+    ensures grows { OnOk result (EdgesGrow timed.now edges.old.items edges.new.items (4 * length timed.now.net.links)) }
+    ensures covers { OnOk result ((k : ℕ) → k < length timed.now.net.links → CoversAll timed.now edges.new.items (IsLineOfLink k)) }
 {
     for link in 0..timed.net().links() {
         push_link(edges, timed, link)?;
@@ -86,7 +86,7 @@ fn push_links(edges: &mut Vec<Edge>, timed: &Timed) -> Result<(), Memory>
 }
 
 fn push_interval(edges: &mut Vec<Edge>, timed: &Timed, interval: u32) -> Result<(), Memory>
-    ensures grows { OnOk result (Grows timed.now edges.old.items edges.new.items 3) }
+    ensures grows { OnOk result (EdgesGrow timed.now edges.old.items edges.new.items 3) }
     ensures covers { OnOk result (CoversAll timed.now edges.new.items (IsOfInterval interval)) }
 {
     push_line(edges, timed, Line::Span { interval })?;
@@ -96,7 +96,7 @@ fn push_interval(edges: &mut Vec<Edge>, timed: &Timed, interval: u32) -> Result<
 }
 
 fn push_point(edges: &mut Vec<Edge>, timed: &Timed, point: u32) -> Result<(), Memory>
-    ensures grows { OnOk result (Grows timed.now edges.old.items edges.new.items 2) }
+    ensures grows { OnOk result (EdgesGrow timed.now edges.old.items edges.new.items 2) }
     ensures covers { OnOk result (CoversAll timed.now edges.new.items (IsOfPoint point)) }
 {
     push_line(edges, timed, Line::Lower { point })?;
@@ -105,8 +105,8 @@ fn push_point(edges: &mut Vec<Edge>, timed: &Timed, point: u32) -> Result<(), Me
 }
 
 fn push_link(edges: &mut Vec<Edge>, timed: &Timed, link: u32) -> Result<(), Memory>
-    ensures grows { OnOk result (Grows timed.now edges.old.items edges.new.items 4) }
-    ensures covers { OnOk result (CoversAll timed.now edges.new.items (IsOfLink link)) }
+    ensures grows { OnOk result (EdgesGrow timed.now edges.old.items edges.new.items 4) }
+    ensures covers { OnOk result (CoversAll timed.now edges.new.items (IsLineOfLink link)) }
 {
     push_line(edges, timed, Line::Via { link, atom: 0 })?;
     push_line(edges, timed, Line::Via { link, atom: 1 })?;
@@ -117,7 +117,7 @@ fn push_link(edges: &mut Vec<Edge>, timed: &Timed, link: u32) -> Result<(), Memo
 
 /// Appends the edge of a line, where it names a constraint.
 fn push_line(edges: &mut Vec<Edge>, timed: &Timed, line: Line) -> Result<(), Memory>
-    ensures grows { OnOk result (Grows timed.now edges.old.items edges.new.items 1) }
+    ensures grows { OnOk result (EdgesGrow timed.now edges.old.items edges.new.items 1) }
     ensures covers { OnOk result (spec.Covers timed.now edges.new.items line) }
 {
     let Some(constraint) = constraint_of(timed, line) else {

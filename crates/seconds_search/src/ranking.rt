@@ -2,7 +2,7 @@
 ghost use Rattle.std.specs.List.{All};
 ghost use Rattle.std.specs.Prelude.{IfOk, OnOk, [], ◌∷◌, ◌++◌, length, slice_index_or, ◌*◌, ◌^◌, ◌<◌, ◌≡◌};
 ghost use Rattle.seconds_search.specs.Edges.{AreInside};
-ghost use Rattle.seconds_search.specs.Ranking.{IsNumber, IsSearch};
+ghost use Rattle.seconds_search.specs.Ranking.{IsEdgeNumber, IsEdgeSearch};
 
 use crate::edges::Edge;
 use net_core::Memory;
@@ -44,7 +44,7 @@ impl Search {
     /// No order is followed yet, and all points are to be visited.
     fn new(alloc: Global, edges: &[Edge], points: u32) -> Result<Search, Memory>
         requires { AreInside points edges.now }
-        ensures { IfOk result (IsSearch edges.now) }
+        ensures { IfOk result (IsEdgeSearch edges.now) }
     {
         let mut next = vec![in alloc; None; points as usize]?;
         let is_seen = vec![in alloc; false; points as usize]?;
@@ -63,8 +63,8 @@ impl Search {
     /// Follows an order from the last point of the path, or goes back from it and ranks it: points that are left later
     /// have lower ranks.
     fn step(&mut self, edges: &[Edge], rank: usize) -> Result<(), Memory>
-        requires { IsSearch edges.now self.old }
-        ensures { OnOk result (IsSearch edges.now self.new) }
+        requires { IsEdgeSearch edges.now self.old }
+        ensures { OnOk result (IsEdgeSearch edges.now self.new) }
     {
         let Some(point) = self.path.pop() else {
             return Ok(());
@@ -110,9 +110,9 @@ fn link_orders(
     next: &mut [Option<usize>],
 ) -> Result<Vec<Option<usize>>, Memory>
     requires inside { AreInside (length next.old) edges.now }
-    requires next { All (IsNumber (length edges.now)) next.old }
-    ensures next { OnOk result (All (IsNumber (length edges.now)) next.new) }
-    ensures before { IfOk result (λ before. All (IsNumber (length edges.now)) before.items) }
+    requires next { All (IsEdgeNumber (length edges.now)) next.old }
+    ensures next { OnOk result (All (IsEdgeNumber (length edges.now)) next.new) }
+    ensures before { IfOk result (λ before. All (IsEdgeNumber (length edges.now)) before.items) }
     ensures size { IfOk result (λ before. length before.items ≡ length edges.now) }
 {
     let mut before = Vec::new(alloc);

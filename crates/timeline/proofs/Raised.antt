@@ -8,7 +8,7 @@ use Rattle.order_closure.specs.Tables.{AreClosed}
 use Rattle.order_closure.specs.declared.cell.Cell.{Cell}
 use Rattle.order_closure.specs.declared.cell.Cell.TheVariants.{Strict}
 use Rattle.order_closure.proofs.Ranking.{fewer_before}
-use Rattle.timeline.specs.Ranking.{AreRanks, raised}
+use Rattle.timeline.specs.Ranking.{AreRanksOfCells, raised}
 use Rattle.timeline.proofs.Turns.{AreTurns, more_after}
 
 -- the ranks of the points after p are raised above that of p, and the others are as they were
@@ -109,7 +109,7 @@ module _ (n : ℕ) (cell : ℕ → ℕ → Cell) (m : ℕ) (point : ℕ → ℕ)
     }
 
   -- after all turns each point has its rank
-  pub all_ranked : (ranks : List ℕ) → AreRankedTo n cell point m (λ q. get_or ranks q 0) → AreRanks n cell ranks
+  pub all_ranked : (ranks : List ℕ) → AreRankedTo n cell point m (λ q. get_or ranks q 0) → AreRanksOfCells n cell ranks
   all_ranked ranks had p lp =
       let this = had.each p lp in
       record {

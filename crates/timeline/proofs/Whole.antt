@@ -10,9 +10,9 @@ use Rattle.order_closure.specs.Timelines.{opposite}
 use Rattle.order_closure.specs.declared.cell.Cell.{Cell}
 use Rattle.order_closure.proofs.LeastRanks.{opposite_is, same_least}
 use Rattle.order_closure.proofs.Ranking.{ranks_kept, ranks_least, ranks_small}
-use Rattle.timeline.specs.Ranking.{AreRanks}
+use Rattle.timeline.specs.Ranking.{AreRanksOfCells}
 
-module _ (n : ℕ) (cell : ℕ → ℕ → Cell) (t : List ℕ) (closed : AreClosed n cell) (ranks : AreRanks n cell t) where
+module _ (n : ℕ) (cell : ℕ → ℕ → Cell) (t : List ℕ) (closed : AreClosed n cell) (ranks : AreRanksOfCells n cell t) where
   pub least_ranks : IsLeast n (AreCellsKept n cell) (timeline_of t)
   least_ranks = record {
     holds = ranks_kept n cell closed (timeline_of t) (λ r p lr lp. (ranks p lp).above r lr) (λ p m lp. (ranks p lp).least m);

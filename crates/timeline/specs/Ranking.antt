@@ -12,8 +12,8 @@ pub record IsRankOf (n : ℕ) (cell : ℕ → ℕ → Cell) (ranks : List ℕ) (
   pub least : (m : ℕ) → ((r : ℕ) → r < n → cell r p ≡ Strict → slice_index ranks r < m) → rank ≤ m
 
 -- each point has its rank
-abbrev pub AreRanks : ℕ → (ℕ → ℕ → Cell) → List ℕ → Type 0
-AreRanks n cell ranks = (p : ℕ) → p < n → IsRankOf n cell ranks p (slice_index ranks p)
+abbrev pub AreRanksOfCells : ℕ → (ℕ → ℕ → Cell) → List ℕ → Type 0
+AreRanksOfCells n cell ranks = (p : ℕ) → p < n → IsRankOf n cell ranks p (slice_index ranks p)
 
 -- a number that is raised to at least another one where a bit is set
 abbrev pub raised : ℕ → ℕ → ℕ → ℕ

@@ -5,7 +5,7 @@ ghost use Rattle.order_closure.specs.Bits.{bit_of};
 ghost use Rattle.order_closure.specs.Tables.{IsClosed, Keeps, cell_at, max_table_points};
 ghost use Rattle.std.specs.Int.{bit_at};
 ghost use Rattle.std.specs.Prelude.{IfOk, length, slice_index, ℕ, ◌*◌, ◌+◌, ◌/◌, ◌<◌, ◌≡◌, ◌≤◌};
-ghost use Rattle.timeline.specs.Ranking.{AreCounted, AreInTurn, AreRanks, after_count, raised};
+ghost use Rattle.timeline.specs.Ranking.{AreCounted, AreInTurn, AreRanksOfCells, after_count, raised};
 
 use net_core::Memory;
 use order_closure::Closed;
@@ -26,7 +26,7 @@ struct Counted {
 /// Out of memory.
 pub fn ranked(alloc: Global, closed: &Closed) -> Result<Vec<u32>, Memory>
     ensures size { IfOk result (λ ranks. length ranks.items ≡ closed.now.points) }
-    ensures ranks { IfOk result (λ ranks. AreRanks closed.now.points (cell_at closed.now) ranks.items) }
+    ensures ranks { IfOk result (λ ranks. AreRanksOfCells closed.now.points (cell_at closed.now) ranks.items) }
     ensures least { IfOk result (λ ranks. IsLeast closed.now.points (Keeps closed.now) (timeline_of ranks.items)) }
     ensures small { IfOk result (λ ranks. (p : ℕ) → p < closed.now.points
         → slice_index ranks.items p < closed.now.points) }
@@ -83,7 +83,7 @@ fn rank_all(closed: &Closed, turns: &[Counted], ranks: &mut [u32])
     requires sorted { AreInTurn turns.now }
     requires size { length ranks.old ≡ closed.now.points }
     requires zero { (p : ℕ) → slice_index ranks.old p ≡ 0 }
-    ensures { AreRanks closed.now.points (cell_at closed.now) ranks.new }
+    ensures { AreRanksOfCells closed.now.points (cell_at closed.now) ranks.new }
 {
     for turn in turns {
         let least = ranks[turn.point as usize] + 1;

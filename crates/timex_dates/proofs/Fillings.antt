@@ -9,7 +9,7 @@ use Rattle.timex_value.specs.declared.shape.Shape.{Shape}
 use Rattle.timex_value.specs.declared.shape.Shape.TheVariants as ShapeOf
 use Rattle.timex_value.specs.declared.value.Calendar.{Calendar}
 use Rattle.timex_value.specs.Text.{IsWritten, IsYearWritten, IsShapeWritten}
-use Rattle.timex_value.specs.Filling.{CanBe, DigitCanBe, YearCanBe, HasDate, HasClock, IsValidIn, HasFilling}
+use Rattle.timex_value.specs.Filling.{CanFillAs, DigitCanBe, YearCanBe, HasDate, HasClock, IsValidIn, HasFilling}
 use Rattle.timex_value.specs.Years.{HasYear}
 use Rattle.timex_value.specs.Values.{year_of, shape_of}
 use Rattle.timex_value.proofs.Filled.{clock_limits}
@@ -18,7 +18,7 @@ use Rattle.std.proofs.Math.Logic.{∥∥₁_elim}
 use Rattle.std.proofs.Props.{props}
 
 -- a filling of a field without X is its number
-part_is : (n m : ℕ) → n ≤ 99 → CanBe (Known n) m → m ≡ n
+part_is : (n m : ℕ) → n ≤ 99 → CanFillAs (Known n) m → m ≡ n
 part_is n m h k = grind arith
 
 digit_is : (n m : ℕ) → n ≤ 9 → DigitCanBe (Known n) m → m ≡ n
@@ -28,7 +28,7 @@ year_is : (y z : ℕ) → y ≤ 9999 → YearCanBe (YearOf.Known y) z → z ≡ 
 year_is y z h k = grind arith
 
 -- what a filling of a field has, its number has, if it is known
-filled : (p : Part) (P : ℕ → Type 0) (n : ℕ) → IsWritten 99 p → CanBe p n → P n → IfKnown p P
+filled : (p : Part) (P : ℕ → Type 0) (n : ℕ) → IsWritten 99 p → CanFillAs p n → P n → IfKnown p P
 filled (Known k) P n w c h = subst P (part_is k n w c) h
 filled Unknown P n w c h = tt
 

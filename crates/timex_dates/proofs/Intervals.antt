@@ -1,5 +1,5 @@
 -- Years, months and weeks as intervals of days.
-use Rattle.std.proofs.Common.{◌≡◌, ℕ, zero, suc, ◌+◌, ◌-◌, ◌*◌, ◌/◌, ◌<◌, ◌≤◌, ◌↔◌, inl, inr, arith, refl}
+use Rattle.std.proofs.Common.{◌≡◌, ℕ, zero, suc, ◌+◌, ◌-◌, ◌*◌, ◌<◌, ◌≤◌, ◌↔◌, inl, inr, arith, refl}
 use Rattle.std.proofs.lemmas.Bool.{cases_lt}
 use Rattle.std.specs.Int.{IsInRange}
 use Rattle.timex_value.specs.Civil.{total, year_length, month_length, year_start, month_start, day_index, IsInYear, IsInMonth, IsInWeek, weekday, thursday_of, weeks_of}

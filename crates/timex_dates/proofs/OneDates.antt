@@ -1,6 +1,6 @@
 -- A day has one date, and a second one civil text.
-use Rattle.std.proofs.Common.{◌≡◌, ℕ, List, suc, ◌-◌, ◌<◌, ◌≤◌, inl, inr, arith, refl, sym, subst}
-use Rattle.std.proofs.lemmas.Bool.{cases_lt}
+use Rattle.std.proofs.Common.{◌≡◌, ℕ, List, suc, ◌-◌, ◌<◌, ◌≤◌, arith, refl, sym, subst}
+use Rattle.net_core.proofs.FirstLaws.{neither_less}
 use Rattle.jiff_core.proofs.SignedLemmas.{signed_arith}
 use Rattle.timex_value.specs.Civil.{month_length, IsDateOf, IsInYear, IsInMonth}
 use Rattle.timex_dates.specs.Seconds.{day_of}
@@ -22,22 +22,11 @@ month_before n y m k h j lt =
     let next = (month_days n y k j.1.0.0 j.1.0.1).0 j in
     omega (arith, next_month y m h.1.0.1.0, total_grows (month_length y) m (k - 1) (omega arith))
 
--- two numbers are one where neither is less
-equal : (a b : ℕ) → (a < b → ⊥) → (b < a → ⊥) → a ≡ b
-equal a b p q =
-    elim (cases_lt a b) [
-      | inl lt ↦ absurd (p lt)
-      | inr le ↦ elim (cases_lt b a) [
-        | inl lt ↦ absurd (q lt)
-        | inr ge ↦ omega arith
-      ]
-    ]
-
 one_date : (n y m d z k e : ℕ) → IsDateOf n y m d → IsDateOf n z k e → (y ≡ z) × (m ≡ k) × (d ≡ e)
 one_date n y m d z k e h j =
-    let year = equal y z (year_before n y z h.0.0 (m, d, h) (k, e, j)) (year_before n z y j.0.0 (k, e, j) (m, d, h)) in
+    let year = neither_less y z (year_before n y z h.0.0 (m, d, h) (k, e, j)) (year_before n z y j.0.0 (k, e, j) (m, d, h)) in
     let there : IsDateOf n y k e = subst (λ x. IsDateOf n x k e) (sym year) j in
-    let month = equal m k (month_before n y m k (d, h) (e, there)) (month_before n y k m (e, there) (d, h)) in
+    let month = neither_less m k (month_before n y m k (d, h) (e, there)) (month_before n y k m (e, there) (d, h)) in
     let same : IsDateOf n y m e = subst (λ x. IsDateOf n y x e) (sym month) there in
     (year, month, omega arith)
 

@@ -61,22 +61,22 @@ Belongs (YearOf.Known y) shape = InShape y shape
 Belongs year shape = InAllYears year shape
 
 -- the field is not X
-abbrev pub is_known : Part → Bool
-is_known (Known n) = true
-is_known Unknown = false
+abbrev pub is_part_known : Part → Bool
+is_part_known (Known n) = true
+is_part_known Unknown = false
 
 -- no field after the year is X
 abbrev pub is_full : Shape → Bool
 is_full ShapeOf.Year = true
-is_full (ShapeOf.Month m) = is_known m
-is_full (ShapeOf.Day m d) = is_known m && is_known d
-is_full (ShapeOf.Week w) = is_known w
-is_full (ShapeOf.Weekday w d) = is_known w && is_known d
-is_full (ShapeOf.Quarter q) = is_known q
-is_full (ShapeOf.Hour m d h) = is_known m && is_known d && is_known h
-is_full (ShapeOf.Minute m d h i) = is_known m && is_known d && is_known h && is_known i
-is_full (ShapeOf.Second m d h i s) = is_known m && is_known d && is_known h && is_known i && is_known s
-is_full (ShapeOf.Half h) = is_known h
+is_full (ShapeOf.Month m) = is_part_known m
+is_full (ShapeOf.Day m d) = is_part_known m && is_part_known d
+is_full (ShapeOf.Week w) = is_part_known w
+is_full (ShapeOf.Weekday w d) = is_part_known w && is_part_known d
+is_full (ShapeOf.Quarter q) = is_part_known q
+is_full (ShapeOf.Hour m d h) = is_part_known m && is_part_known d && is_part_known h
+is_full (ShapeOf.Minute m d h i) = is_part_known m && is_part_known d && is_part_known h && is_part_known i
+is_full (ShapeOf.Second m d h i s) = is_part_known m && is_part_known d && is_part_known h && is_part_known i && is_part_known s
+is_full (ShapeOf.Half h) = is_part_known h
 is_full ShapeOf.Decade = true
 is_full ShapeOf.Century = true
 

@@ -151,7 +151,7 @@ pub(crate) fn interval_of(year: Year, shape: Shape) -> Interval
 
 /// Whether a field is not `X`.
 fn is_known(part: Part) -> bool
-    ensures { result ≡ parts.is_known part }
+    ensures { result ≡ parts.is_part_known part }
 {
     match part {
         Part::Known(_) => true,

@@ -11,7 +11,7 @@ use Rattle.timex_value.specs.declared.shape.Part.TheVariants.{Known}
 use Rattle.timex_value.specs.declared.shape.Shape.{Shape}
 use Rattle.timex_value.specs.declared.shape.Shape.TheVariants as ShapeOf
 use Rattle.timex_value.specs.Civil.{IsDate, month_length, weeks_of}
-use Rattle.timex_value.specs.Filling.{Fills, CanBe, DigitCanBe, IsYearOf, IsClock, HasDate, HasClock, IsValidIn, HasFilling}
+use Rattle.timex_value.specs.Filling.{Fills, CanFillAs, DigitCanBe, IsYearOf, IsClock, HasDate, HasClock, IsValidIn, HasFilling}
 
 -- some number with two properties, which only numbers below a limit have
 some_with : (P Q : ℕ → Type 0) → ((n : ℕ) → Dec (P n)) → ((n : ℕ) → Dec (Q n)) → (limit : ℕ) → ((n : ℕ) → P n → Q n → n < limit) → Dec ((n : ℕ) × P n × Q n)
@@ -33,8 +33,8 @@ fills (b ∷ text) (c ∷ full) =
     all_three (implied is_x (in_range (byte "0") (byte "9") c)) (implied (Dec.not is_x) (ℕ_discrete c b)) (fills text full)
 
 -- whether a field of two bytes, or of one, can be a number from 1 to another
-part_up_to : (part : Part) (high : ℕ) → Dec ((n : ℕ) × CanBe part n × IsInRange 1 high n)
-part_up_to part high = some_between (CanBe part) (λ n. fills _ _) 1 high
+part_up_to : (part : Part) (high : ℕ) → Dec ((n : ℕ) × CanFillAs part n × IsInRange 1 high n)
+part_up_to part high = some_between (CanFillAs part) (λ n. fills _ _) 1 high
 
 digit_up_to : (part : Part) (high : ℕ) → Dec ((n : ℕ) × DigitCanBe part n × IsInRange 1 high n)
 digit_up_to part high = some_between (DigitCanBe part) (λ n. fills _ _) 1 high
@@ -45,8 +45,8 @@ is_date y m d = all_three (dec_le 1 y) (in_range 1 12 m) (in_range 1 (month_leng
 has_date : (y : ℕ) (month day : Part) → Dec (HasDate y month day)
 has_date y month day =
     Dec.of_iff (λ h. (h.0, h.2.0, h.1, h.2.1, h.2.2), λ h. (h.0, h.2, (h.1, h.3, h.4)))
-    (some_with (CanBe month) (λ m. (d : ℕ) × CanBe day d × IsDate y m d) (λ m. fills _ _)
-    (λ m. some_with (CanBe day) (IsDate y m) (λ d. fills _ _) (is_date y m) (suc (month_length y m)) (λ d _ h. let within = h.2 in omega arith))
+    (some_with (CanFillAs month) (λ m. (d : ℕ) × CanFillAs day d × IsDate y m d) (λ m. fills _ _)
+    (λ m. some_with (CanFillAs day) (IsDate y m) (λ d. fills _ _) (is_date y m) (suc (month_length y m)) (λ d _ h. let within = h.2 in omega arith))
     13 (λ m _ h. let within = h.2.1 in omega arith))
 
 is_clock : (h i s : ℕ) → Dec (IsClock h i s)
@@ -60,9 +60,9 @@ clock_limits h i s (inr clock) = omega arith
 has_clock : (hour minute second : Part) → Dec (HasClock hour minute second)
 has_clock hour minute second =
     Dec.of_iff (λ x. (x.0, x.2.0, x.2.2.0, x.1, x.2.1, x.2.2.1, x.2.2.2), λ x. (x.0, x.3, (x.1, x.4, (x.2, x.5, x.6))))
-    (some_with (CanBe hour) (λ h. (i : ℕ) × CanBe minute i × ((s : ℕ) × CanBe second s × IsClock h i s)) (λ h. fills _ _)
-    (λ h. some_with (CanBe minute) (λ i. (s : ℕ) × CanBe second s × IsClock h i s) (λ i. fills _ _)
-    (λ i. some_with (CanBe second) (IsClock h i) (λ s. fills _ _) (is_clock h i) 60 (λ s _ x. omega (arith, clock_limits h i s x)))
+    (some_with (CanFillAs hour) (λ h. (i : ℕ) × CanFillAs minute i × ((s : ℕ) × CanFillAs second s × IsClock h i s)) (λ h. fills _ _)
+    (λ h. some_with (CanFillAs minute) (λ i. (s : ℕ) × CanFillAs second s × IsClock h i s) (λ i. fills _ _)
+    (λ i. some_with (CanFillAs second) (IsClock h i) (λ s. fills _ _) (is_clock h i) 60 (λ s _ x. omega (arith, clock_limits h i s x)))
     60 (λ i _ x. omega (arith, clock_limits h i x.0 x.2)))
     25 (λ h _ x. omega (arith, clock_limits h x.0 x.2.0 x.2.2)))
 

@@ -10,9 +10,9 @@ use Rattle.tml_tree.specs.Whole.{IsTreeOf, UnitsFaultAt, kind_and_place as tree_
 use Rattle.tml_types.specs.declared.tag_reader.SourceFault.{SourceFault}
 use Rattle.tml_types.specs.declared.tag_reader.SourceFault.TheVariants.{Cut, Tree, Tag}
 use Rattle.tml_types.specs.TagReader.{HasSourceFault, source_kind_and_place}
-use Rattle.tml_types.specs.Whole.{FaultAt as AttributeFaultAt, kind_and_place}
+use Rattle.tml_types.specs.Whole.{TagFaultAt as AttributeFaultAt, kind_and_place}
 use Rattle.tml_types.specs.Content.{PlainTyped}
-use Rattle.tml_refs.specs.Rules.{FaultAt as ReferenceFaultAt}
+use Rattle.tml_refs.specs.Rules.{ReferenceFaultAt}
 use Rattle.tml_accept.specs.Acceptance.{AreTypedTags, FirstFault}
 
 -- the fault of its cut

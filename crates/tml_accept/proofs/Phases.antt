@@ -7,10 +7,10 @@ use Rattle.tml_tree.specs.Whole.{IsTreeOf}
 use Rattle.tml_tree.proofs.Faults as trees
 use Rattle.tml_tree.proofs.Paths.{one_tree_of_source}
 use Rattle.tml_types.specs.Content.{PlainTyped}
-use Rattle.tml_types.specs.Whole.{FaultAt as AttributeFaultAt, Types}
+use Rattle.tml_types.specs.Whole.{TagFaultAt as AttributeFaultAt, Types}
 use Rattle.tml_types.proofs.OneAnswer as tags
 use Rattle.tml_refs.specs.Documents.{PlainDocument, Resolved}
-use Rattle.tml_refs.specs.Rules.{FaultAt as ReferenceFaultAt}
+use Rattle.tml_refs.specs.Rules.{ReferenceFaultAt}
 use Rattle.tml_refs.proofs.OneAnswer as documents
 use Rattle.tml_accept.specs.Acceptance.{InUnits, InAttributes, AreTypedTags, InReferences, Accepted, FirstFault, IsAccepted, OneAcceptances, Says}
 

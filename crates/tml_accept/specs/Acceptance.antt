@@ -5,9 +5,9 @@ use Rattle.tml_tree.specs.Plain.{PlainNode}
 use Rattle.tml_tree.specs.Whole.{IsTreeOf, SourceFaultAt}
 use Rattle.tml_tree.specs.Walking.{elements}
 use Rattle.tml_types.specs.Content.{PlainTyped}
-use Rattle.tml_types.specs.Whole.{Types, FaultAt as AttributeFaultAt}
+use Rattle.tml_types.specs.Whole.{Types, TagFaultAt as AttributeFaultAt}
 use Rattle.tml_refs.specs.Documents.{PlainDocument, Resolved}
-use Rattle.tml_refs.specs.Rules.{FaultAt as ReferenceFaultAt}
+use Rattle.tml_refs.specs.Rules.{ReferenceFaultAt}
 
 -- the fault of the bytes, of the units or of their nesting
 abbrev pub InUnits : List ℕ → FaultKind → ℕ → Type 0

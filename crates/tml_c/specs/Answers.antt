@@ -5,7 +5,7 @@ use Rattle.tml_c.specs.Words.{AreTakenFor, HaveWords}
 use Rattle.tml_io.specs.Files.{Files}
 use Rattle.runs.specs.Reading.{AllThere}
 use Rattle.runs.specs.Replies.{Replies}
-use Rattle.runs.specs.Status.{number_of}
+use Rattle.runs.specs.Status.{status_number}
 use Rattle.runs.specs.declared.status.Status.{Status}
 use Rattle.runs.specs.declared.status.Status.TheVariants.{NoMemory, ReadFault, Usage, WriteFault}
 use Rattle.tml_tool.specs.Commands.{form_of, rows_of}
@@ -23,8 +23,8 @@ abbrev pub HasNoRoom : List ℕ → Status → List ℕ → Type 0
 HasNoRoom bytes status text = (status ≡ NoMemory) × (text ≡ []) × HaveWords bytes
 
 -- The status and the text that a call answers to the words in some bytes, over two files. Once the words are read, out of memory is a reply to those alone that have a form.
-abbrev pub Answers : List ℕ → List ℕ → List ℕ → Status → List ℕ → Type 0
-Answers bytes first second status text =
+abbrev pub IsCallAnswer : List ℕ → List ℕ → List ℕ → Status → List ℕ → Type 0
+IsCallAnswer bytes first second status text =
     HasNoRoom bytes status text
     ⊎ ((words : List (List ℕ)) × AreTakenFor bytes words × IsReply (two_files first second) words status text)
 
@@ -33,10 +33,10 @@ abbrev pub laid_over : List ℕ → List ℕ → List ℕ
 laid_over text room = take (length room) text ++ drop (length text) room
 
 -- What a call leaves: the number of a status, how long its text is, and the text laid over what was in the room for it.
-pub record Leaves (words first second : List ℕ) (number : ℕ) (needed : ℕ) (before now : List ℕ) : Type 0 where
+pub record LeavesText (words first second : List ℕ) (number : ℕ) (needed : ℕ) (before now : List ℕ) : Type 0 where
   pub status : Status
   pub text : List ℕ
-  pub answers : Answers words first second status text
-  pub number_is : number ≡ number_of status
+  pub answers : IsCallAnswer words first second status text
+  pub number_is : number ≡ status_number status
   pub needed_is : needed ≡ length text
   pub room_is : now ≡ laid_over text before

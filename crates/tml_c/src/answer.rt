@@ -1,6 +1,6 @@
 //! What a call answers.
 ghost use Rattle.std.specs.Prelude.{◌≡◌, []};
-ghost use Rattle.tml_c.specs.Answers.{Answers, IsReply};
+ghost use Rattle.tml_c.specs.Answers.{IsCallAnswer, IsReply};
 ghost use Rattle.tml_c.specs.Given.{two_files};
 ghost use Rattle.tml_c.specs.View.{status_of, text_of};
 ghost use Rattle.runs.specs.Words.{texts_of};
@@ -50,7 +50,7 @@ fn out_of_memory(alloc: Global) -> CallAnswer
 
 /// The answer to the words in some bytes, over two files. Where the bytes have none, no memory is needed.
 pub fn answer_to_bytes(alloc: Global, words: &[u8], first: &[u8], second: &[u8]) -> CallAnswer
-    ensures { Answers words.now first.now second.now (status_of result) (text_of result) }
+    ensures { IsCallAnswer words.now first.now second.now (status_of result) (text_of result) }
 {
     match words_in(alloc, words) {
         Ok(Some(words)) => answer_to_words(alloc, words.as_slice(), first, second),

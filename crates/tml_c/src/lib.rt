@@ -5,7 +5,7 @@
 
 ghost use Rattle.std.specs.Prelude.{◌≡◌};
 ghost use Rattle.net_core.specs.Limits.{max_document, max_evidence};
-ghost use Rattle.tml_c.specs.Answers.{Leaves, laid_over};
+ghost use Rattle.tml_c.specs.Answers.{LeavesText, laid_over};
 
 mod answer;
 mod inputs;
@@ -27,7 +27,7 @@ pub extern "C" fn tml_answer(
     text: &mut [u8],
     needed: &mut usize,
 ) -> u8
-    ensures { Leaves words.now first.now second.now result needed.new text.old text.new }
+    ensures { LeavesText words.now first.now second.now result needed.new text.old text.new }
 {
     let answer = answer_to_bytes(alloc, words, first, second);
     let said = answer.text();

@@ -1,7 +1,7 @@
 -- Trees that are the same.
 use Rattle.std.proofs.Common.{◌≡◌, ℕ, ◌+◌, List, length, refl, sym, ap, ap₂, ◌∙◌}
 use Rattle.tml_span.specs.Units.{Attribute, start_tag}
-use Rattle.tml_span.specs.Written.{kind_text}
+use Rattle.tml_span.specs.Written.{unit_text}
 use Rattle.tml_tree.specs.Plain.{PlainNode, PlainNodes, text_node, comment_node, element, none, more}
 use Rattle.tml_tree.specs.Written.{node_at, nodes_at, root_text, size_of}
 use Rattle.tml_canon.specs.Canonical.{canonical, canonical_attributes, canonical_nodes}
@@ -73,7 +73,7 @@ mutual
   same_as_canonical place (comment_node s e bytes) = refl
   same_as_canonical place (element s e name attrs none) = (refl, canonical_attributes_same (inside place name) attrs, tt)
   same_as_canonical place (element s e name attrs (more n ns)) =
-      (refl, canonical_attributes_same (inside place name) attrs, all_same_as_canonical (place + length (kind_text (start_tag name (canonical_attributes attrs)))) (more n ns))
+      (refl, canonical_attributes_same (inside place name) attrs, all_same_as_canonical (place + length (unit_text (start_tag name (canonical_attributes attrs)))) (more n ns))
 
   -- and so are nodes one after another
   all_same_as_canonical : (place : ℕ) (ns : PlainNodes) → AllSame ns (nodes_at place (canonical_nodes ns))
@@ -92,7 +92,7 @@ mutual
   canonical_tree_again place (element s e name attrs none) = ap (λ (all : List Attribute). element 0 0 name all none) (canonical_attributes_again (inside place name) attrs)
   canonical_tree_again place (element s e name attrs (more n ns)) = ap₂ (λ (all : List Attribute) (children : PlainNodes). element 0 0 name all children)
       (canonical_attributes_again (inside place name) attrs)
-      (canonical_trees_again (place + length (kind_text (start_tag name (canonical_attributes attrs)))) (more n ns))
+      (canonical_trees_again (place + length (unit_text (start_tag name (canonical_attributes attrs)))) (more n ns))
 
   -- and so are nodes one after another
   canonical_trees_again : (place : ℕ) (ns : PlainNodes) → canonical_nodes (nodes_at place (canonical_nodes ns)) ≡ canonical_nodes ns

@@ -7,7 +7,7 @@ use Rattle.std.proofs.lemmas.Str.{IsUtf8-append, IsUtf8-nil}
 use Rattle.named.proofs.Lists.{each_joined, each_kept, each_parts}
 use Rattle.tml_span.specs.Pieces.{IsGoodAttribute, IsGoodKind, IsGoodTag, IsGoodUnit}
 use Rattle.tml_span.specs.Units.{Attribute, Kind, PlainUnit, comment, empty_tag, end_tag, start_tag, text}
-use Rattle.tml_span.specs.Written.{IsAttribute, IsContent, IsTag, attribute_text, kind_text, written}
+use Rattle.tml_span.specs.Written.{IsAttribute, IsContent, IsTag, attribute_text, unit_text, written}
 use Rattle.tml_span.proofs.Pieces.{units_are_good}
 use Rattle.tml_span.proofs.Utf8.{ascii_utf8, three_utf8}
 use Rattle.tml_tree.specs.Nesting.{Item, Items, is_content, is_element}
@@ -92,7 +92,7 @@ attributes_ready attrs h = each_ready (in_order attrs) (all_in_order IsGoodAttri
 
 -- a unit that can be written, in UTF-8
 abbrev IsReadyKind : Kind → Type 0
-IsReadyKind kind = IsContent kind × IsUtf8 (kind_text kind)
+IsReadyKind kind = IsContent kind × IsUtf8 (unit_text kind)
 
 -- attributes that can be written, in UTF-8, make UTF-8 together
 ready_attributes : (attrs : List Attribute) → AllByRecursion IsReady attrs → AllByRecursion IsAttribute attrs × IsUtf8 (flat_map attribute_text attrs)
@@ -147,7 +147,7 @@ ready_content : (kinds : List Kind) → AllByRecursion IsReadyKind kinds → All
 ready_content [] h = (tt, IsUtf8-nil)
 ready_content (kind ∷ kinds) h =
     let rest = ready_content kinds h.1 in
-    ((h.0.0, rest.0), IsUtf8-append (kind_text kind) (written kinds) h.0.1 rest.1)
+    ((h.0.0, rest.0), IsUtf8-append (unit_text kind) (written kinds) h.0.1 rest.1)
 
 -- each unit of the canonical tree of a source is a tag, a comment or a text that can be written
 pub content : (source : List ℕ) (root : PlainNode) → IsTreeOf source root → All IsContent (root_kinds (canonical root))

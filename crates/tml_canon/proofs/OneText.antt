@@ -9,7 +9,7 @@ use Rattle.tml_tree.specs.Walking.{PlainTag, all_elements, elements}
 use Rattle.tml_tree.specs.Whole.{IsTreeOf}
 use Rattle.tml_tree.specs.Written.{root_text}
 use Rattle.tml_tree.proofs.Paths.{one_tree_of_source}
-use Rattle.tml_types.specs.Rules.{IsSound, is_repeated}
+use Rattle.tml_types.specs.Rules.{BreaksNoTagRule, is_repeated}
 use Rattle.tml_refs.specs.Documents.{PlainDocument}
 use Rattle.tml_canon.specs.Canonical.{canonical, canonical_nodes, canonical_text}
 use Rattle.tml_accept.specs.Acceptance.{TreeSays}
@@ -26,7 +26,7 @@ abbrev NoneRepeated : List PlainTag → Type 0
 NoneRepeated tags = AllByRecursion (λ (tag : PlainTag). is_repeated tag.attrs ≡ false) tags
 
 -- tags that break no rule have no repeated attribute
-none_repeated : (tags : List PlainTag) → AllByRecursion IsSound tags → NoneRepeated tags
+none_repeated : (tags : List PlainTag) → AllByRecursion BreaksNoTagRule tags → NoneRepeated tags
 none_repeated [] all = tt
 none_repeated (tag ∷ tags) all = (false_from_ne_true (is_repeated tag.attrs) (all.0 RepeatedAttribute), none_repeated tags all.1)
 
@@ -67,7 +67,7 @@ mutual
 
 -- a tree that says something has no repeated attribute
 of_tree : (root : PlainNode) (contents : PlainDocument) → TreeSays root contents → NoneRepeated (elements root)
-of_tree root contents says = none_repeated (elements root) (recursion_from_All IsSound (elements root) says.1.sound)
+of_tree root contents says = none_repeated (elements root) (recursion_from_All BreaksNoTagRule (elements root) says.1.sound)
 
 -- ---- and the other way round
 

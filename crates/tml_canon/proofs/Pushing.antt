@@ -6,7 +6,7 @@ use Rattle.std.proofs.lemmas.List.{append-nil, drop_all, nil_from_length}
 use Rattle.std.proofs.lemmas.Grind.{flat_map-append}
 use Rattle.tml_span.specs.Units.{Attribute, start_tag, end_tag}
 use Rattle.tml_span.specs.View.{attribute_of}
-use Rattle.tml_span.specs.Written.{kind_text, written}
+use Rattle.tml_span.specs.Written.{unit_text, written}
 use Rattle.tml_tree.specs.declared.node.Tag.{Tag}
 use Rattle.tml_tree.specs.declared.node.Node.{Node}
 use Rattle.tml_tree.specs.Plain.{PlainNode, PlainNodes, none, more, element, nodes_of}
@@ -22,7 +22,7 @@ nodes_text nodes = written (all_kinds nodes)
 
 -- the text of the first node, and that of the others
 pub nodes_text-more : (n : PlainNode) (ns : PlainNodes) → nodes_text (more n ns) ≡ node_text n ++ nodes_text ns
-nodes_text-more n ns = flat_map-append kind_text (kinds_of n) (all_kinds ns)
+nodes_text-more n ns = flat_map-append unit_text (kinds_of n) (all_kinds ns)
 
 -- an end tag
 abbrev pub closing : List ℕ → List ℕ
@@ -37,8 +37,8 @@ pub full_text : (name : List ℕ) (attrs : List Attribute) (n : PlainNode) (ns :
     → node_text (element 0 0 name attrs (more n ns)) ≡ opening name attrs ++ codes ">" ++ nodes_text (more n ns) ++ closing name
 full_text name attrs n ns =
     let inner : written (all_kinds (more n ns) ++ end_tag name ∷ []) ≡ nodes_text (more n ns) ++ closing name =
-    flat_map-append kind_text (all_kinds (more n ns)) (end_tag name ∷ []) ∙ ap (λ (s : List ℕ). nodes_text (more n ns) ++ s) (append-nil (closing name)) in
-    ap (λ (s : List ℕ). kind_text (start_tag name attrs) ++ s) inner ∙ sym (append_assoc (kind_text (start_tag name attrs)) (nodes_text (more n ns)) (closing name))
+    flat_map-append unit_text (all_kinds (more n ns)) (end_tag name ∷ []) ∙ ap (λ (s : List ℕ). nodes_text (more n ns) ++ s) (append-nil (closing name)) in
+    ap (λ (s : List ℕ). unit_text (start_tag name attrs) ++ s) inner ∙ sym (append_assoc (unit_text (start_tag name attrs)) (nodes_text (more n ns)) (closing name))
 
 -- the canonical text of children
 abbrev pub children_text : List Node → List ℕ

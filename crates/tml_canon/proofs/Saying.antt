@@ -4,12 +4,12 @@ use Rattle.std.specs.List.{AllZip, filter}
 use Rattle.std.proofs.lemmas.List.Elements.{All-filter, All-head, All-tail}
 use Rattle.named.proofs.Pairs.{zip_append}
 use Rattle.tml_span.specs.Units.{Attribute, start_tag}
-use Rattle.tml_span.specs.Written.{kind_text, tag_attributes}
+use Rattle.tml_span.specs.Written.{unit_text, tag_attributes}
 use Rattle.tml_tree.specs.Plain.{PlainNode, PlainNodes, text_node, comment_node, element, none, more}
 use Rattle.tml_tree.specs.Walking.{PlainTag, elements, all_elements}
 use Rattle.tml_tree.specs.Written.{node_at, nodes_at, size_of}
 use Rattle.tml_types.specs.Content.{PlainTyped}
-use Rattle.tml_types.specs.Rules.{IsSound}
+use Rattle.tml_types.specs.Rules.{BreaksNoTagRule}
 use Rattle.tml_types.specs.Typing.{TypedAs}
 use Rattle.tml_types.specs.Whole.{has_rows}
 use Rattle.tml_canon.specs.Canonical.{canonical, canonical_nodes, canonical_attributes}
@@ -33,7 +33,7 @@ mutual
   elements_quoted place (comment_node start end bytes) = tt
   elements_quoted place (element start end name attrs none) = (tag_quoted start place name attrs, tt)
   elements_quoted place (element start end name attrs (more n ns)) =
-      (tag_quoted start place name attrs, nodes_quoted (place + length (kind_text (start_tag name (canonical_attributes attrs)))) (more n ns))
+      (tag_quoted start place name attrs, nodes_quoted (place + length (unit_text (start_tag name (canonical_attributes attrs)))) (more n ns))
 
   nodes_quoted : (place : ℕ) (ns : PlainNodes) → AllZip IsQuoted (all_elements ns) (all_elements (nodes_at place (canonical_nodes ns)))
   nodes_quoted place none = tt
@@ -50,16 +50,16 @@ record SayAs (tags : List PlainTag) (typed : List PlainTyped) : Type 0 where
   say : AllZip SayOne typed others
 
 -- tags with quoted values say what they said
-say_quoted : (tags others : List PlainTag) (typed : List PlainTyped) → AllZip IsQuoted tags others → All IsSound tags → AllZip TypedAs tags typed → SayAs others typed
+say_quoted : (tags others : List PlainTag) (typed : List PlainTyped) → AllZip IsQuoted tags others → All BreaksNoTagRule tags → AllZip TypedAs tags typed → SayAs others typed
 say_quoted [] [] [] q s h = record { others = []; are_typed = tt; say = tt }
 say_quoted [] [] (x ∷ typed) q s h = absurd h
 say_quoted [] (u ∷ others) typed q s h = absurd q
 say_quoted (t ∷ tags) [] typed q s h = absurd q
 say_quoted (t ∷ tags) (u ∷ others) [] q s h = absurd h
 say_quoted (t ∷ tags) (u ∷ others) (x ∷ typed) q s h =
-    let rest = say_quoted tags others typed q.1 (All-tail IsSound t tags s) h.1 in record {
+    let rest = say_quoted tags others typed q.1 (All-tail BreaksNoTagRule t tags s) h.1 in record {
       others = record { place = u.place; content = x.content } ∷ rest.others;
-      are_typed = (typed_quoted t u x q.0 (All-head IsSound t tags s) h.0, rest.are_typed);
+      are_typed = (typed_quoted t u x q.0 (All-head BreaksNoTagRule t tags s) h.0, rest.are_typed);
       say = (refl, rest.say);
     }
 
@@ -73,8 +73,8 @@ canonical_says_the_same root contents (typed, types, resolved) =
     let tags = elements root in
     let others = elements (canonical_tree root) in
     let quoted = elements_quoted 0 root in
-    let said = say_quoted (filter has_rows tags) (filter has_rows others) typed (pairs_filter IsQuoted has_rows has_rows same_rows tags others quoted) (All-filter has_rows IsSound tags types.sound) types.typed_tags in (
+    let said = say_quoted (filter has_rows tags) (filter has_rows others) typed (pairs_filter IsQuoted has_rows has_rows same_rows tags others quoted) (All-filter has_rows BreaksNoTagRule tags types.sound) types.typed_tags in (
       said.others,
-      record { sound = pairs_all IsQuoted IsSound IsSound sound_quoted tags others quoted types.sound; typed_tags = said.are_typed },
+      record { sound = pairs_all IsQuoted BreaksNoTagRule BreaksNoTagRule sound_quoted tags others quoted types.sound; typed_tags = said.are_typed },
       resolved_alike typed said.others said.say contents resolved,
     )

@@ -13,8 +13,8 @@ use Rattle.tml_types.specs.declared.typed.TagKind.{TagKind}
 use Rattle.tml_types.specs.declared.typed.TagKind.TheVariants as kind
 use Rattle.tml_types.specs.Content.{Content, PlainTyped, Reference, event, instance, timex, signal, tlink, alink, slink}
 use Rattle.tml_types.specs.References.{kind_of, tag_name}
-use Rattle.tml_types.specs.Rules.{Breaks, IsNoDate, IsSound, is_absent, is_bad, is_conflict, is_missing, is_unfit}
-use Rattle.tml_types.specs.Table.{Row, ValueForm, one_of, optional, required, rows_at, rows_of}
+use Rattle.tml_types.specs.Rules.{BreaksTagRule, IsNoDate, BreaksNoTagRule, is_absent, is_bad, is_conflict, is_missing, is_unfit}
+use Rattle.tml_types.specs.Table.{Row, ValueForm, one_of, optional, required, rows_at, attribute_rows}
 use Rattle.tml_types.specs.Typing.{EndOf, HasFields, IsValueOf, TypedAs}
 use Rattle.tml_types.specs.Values.{is_of_form, value_of}
 use Rattle.tml_types.proofs.OneRule.{rows_known}
@@ -33,7 +33,7 @@ tag_of kind.Alink = tag.Alink
 tag_of kind.Slink = tag.Slink
 
 -- its rows
-rows_of_kind : (k : TagKind) → rows_at (tag_name k) ≡ rows_of (tag_of k)
+rows_of_kind : (k : TagKind) → rows_at (tag_name k) ≡ attribute_rows (tag_of k)
 rows_of_kind kind.Event = rows_known tag.Event
 rows_of_kind kind.Instance = rows_known tag.MakeInstance
 rows_of_kind kind.Timex = rows_known tag.Timex3
@@ -106,7 +106,7 @@ module _ (attrs others : List Attribute) (q : AreQuoted attrs others) where
   end_kept a b r h k (inr e) = inr (e.0, k ∙ e.1)
 
   -- the fields are what they were
-  fields_kept : (c : Content) → AllByRecursion (IsRowKept attrs others) (rows_of (tag_of (kind_of c))) → HasFields attrs c → HasFields others c
+  fields_kept : (c : Content) → AllByRecursion (IsRowKept attrs others) (attribute_rows (tag_of (kind_of c))) → HasFields attrs c → HasFields others c
   fields_kept (event e) (eid, (class, _)) h = (eid refl ∙ h.0, class refl ∙ h.1)
   fields_kept (instance i) (eiid, (event_id, (tense, (aspect, (pos, (polarity, (signal_id, _))))))) h =
       (eiid refl ∙ h.0, event_id refl ∙ h.1, signal_id refl ∙ h.2, tense refl ∙ h.3, aspect refl ∙ h.4, pos refl ∙ h.5, polarity refl ∙ h.6)
@@ -146,8 +146,8 @@ rows_pass : (t other : PlainTag) → IsQuoted t other → (p q : Row → Bool) �
 rows_pass t other h p q same k = ap (λ (name : List ℕ). list_any q (rows_at name)) (sym h.name) ∙ sym (any_agree p q same (rows_at other.name)) ∙ k
 
 -- so the first breaks the rules that the other breaks
-breaks_before : (t other : PlainTag) → IsQuoted t other → (rule : FaultKind) → Breaks rule other → Breaks rule t
-breaks_before t other h rule b = elim rule as (λ r. Breaks r other → Breaks r t) [
+breaks_before : (t other : PlainTag) → IsQuoted t other → (rule : FaultKind) → BreaksTagRule rule other → BreaksTagRule rule t
+breaks_before t other h rule b = elim rule as (λ r. BreaksTagRule r other → BreaksTagRule r t) [
   | kinds.RepeatedAttribute ↦ λ k. sym h.attrs.repeated ∙ k
   | kinds.MissingAttribute ↦ rows_pass t other h (is_missing other.attrs) (is_missing t.attrs) (missing_same t.attrs other.attrs h.attrs)
   | kinds.BadValue ↦ rows_pass t other h (is_bad other.attrs) (is_bad t.attrs) (bad_same t.attrs other.attrs h.attrs)
@@ -157,13 +157,13 @@ breaks_before t other h rule b = elim rule as (λ r. Breaks r other → Breaks r
 ] b
 
 -- and the other breaks none where the first breaks none
-pub sound_quoted : (t other : PlainTag) → IsQuoted t other → IsSound t → IsSound other
+pub sound_quoted : (t other : PlainTag) → IsQuoted t other → BreaksNoTagRule t → BreaksNoTagRule other
 sound_quoted t other h sound = λ rule b. sound rule (breaks_before t other h rule b)
 
 -- and says what the first says, where that breaks none
-pub typed_quoted : (t other : PlainTag) (x : PlainTyped) → IsQuoted t other → IsSound t → TypedAs t x → TypedAs other (record { place = other.place; content = x.content })
+pub typed_quoted : (t other : PlainTag) (x : PlainTyped) → IsQuoted t other → BreaksNoTagRule t → TypedAs t x → TypedAs other (record { place = other.place; content = x.content })
 typed_quoted t other x h sound typed =
-    let rows = rows_of (tag_of (kind_of x.content)) in
+    let rows = attribute_rows (tag_of (kind_of x.content)) in
     let same : rows_at t.name ≡ rows = ap rows_at typed.name ∙ rows_of_kind (kind_of x.content) in
     let none : list_any (is_bad t.attrs) rows ≡ false = subst (λ (rs : List Row). list_any (is_bad t.attrs) rs ≡ false) same (false_from_ne_true _ (sound kinds.BadValue)) in
     record {

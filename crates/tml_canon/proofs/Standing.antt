@@ -13,11 +13,11 @@ use Rattle.faults.specs.declared.kind.FaultKind.TheVariants as fault
 use Rattle.tml_span.specs.Bytes.{is_white}
 use Rattle.tml_span.specs.Units.{Attribute, Kind, bom, declaration, doctype, comment, text, start_tag, end_tag, empty_tag, PlainUnit}
 use Rattle.tml_tree.specs.Plain.{unit, PlainNode, PlainNodes, text_node, comment_node, element, none, more, nodes_of}
-use Rattle.tml_tree.specs.Nesting.{OpenTag, Opens, open_name, is_seen, is_content, is_element}
-use Rattle.tml_tree.specs.Rules.{history_of, is_tag, is_unknown, is_misplaced, is_misplaced_tag, is_too_deep}
+use Rattle.tml_tree.specs.Nesting.{OpenTag, LeavesOpen, open_name, is_seen, is_content, is_element}
+use Rattle.tml_tree.specs.Rules.{history_of, is_tag, is_unknown_tag, is_misplaced, is_misplaced_tag, is_too_deep}
 use Rattle.tml_tree.specs.Stage.{Stage, step, run}
 use Rattle.tml_tree.specs.TagNames.{is_known, is_link, is_root}
-use Rattle.tml_tree.specs.Trees.{Breaks}
+use Rattle.tml_tree.specs.Trees.{BreaksUnitRule}
 use Rattle.tml_tree.specs.Whole.{IsTreeOf}
 use Rattle.tml_tree.specs.Written.{may_be_in_link, all_may_be_in_link, MayStand, AllMayStand, MayBeRoot}
 use Rattle.tml_tree.proofs.Allowed.{not_at_fault, tagged_is_seen}
@@ -85,7 +85,7 @@ root_rule false true h = refl
 root_rule false false h = absurd cc
 
 -- a tag that is in no way at fault may be open there
-tag_is_open : (us : List PlainUnit) (tags : List OpenTag) (nodes : List PlainNode) (name : List ℕ) (attrs : List Attribute) → Opens (filter is_content us) tags nodes
+tag_is_open : (us : List PlainUnit) (tags : List OpenTag) (nodes : List PlainNode) (name : List ℕ) (attrs : List Attribute) → LeavesOpen (filter is_content us) tags nodes
     → not (is_known name) ≡ false → is_misplaced_tag (history_of us (map open_name tags) (is_seen tags nodes)) name ≡ false → nat_le 32 (length (map open_name tags)) ≡ false → MayBeOpen tags name
 tag_is_open us [] nodes name attrs o k m d =
     let same = tagged_is_seen us nodes o in
@@ -127,7 +127,7 @@ stand_end t tags nodes end s true h e =
     subst (λ (r : Stage). Stand r.tags r.nodes) (same_Some _ _ e) (stand_more tags t.before (element t.start end t.name t.attrs (nodes_of nodes)) h.3 (element_follows tags t.start end t.name t.attrs (nodes_of nodes) h.2 h.1 inside))
 
 -- a unit that is in no way at fault keeps it so
-stand_step : (start end : ℕ) (k : Kind) (us : List PlainUnit) (tags : List OpenTag) (nodes : List PlainNode) (s : Stage) → Opens (filter is_content us) tags nodes → Stand tags nodes → is_unknown k ≡ false
+stand_step : (start end : ℕ) (k : Kind) (us : List PlainUnit) (tags : List OpenTag) (nodes : List PlainNode) (s : Stage) → LeavesOpen (filter is_content us) tags nodes → Stand tags nodes → is_unknown_tag k ≡ false
     → is_misplaced (history_of us (map open_name tags) (is_seen tags nodes)) k ≡ false → is_too_deep (history_of us (map open_name tags) (is_seen tags nodes)) k ≡ false → step tags nodes (unit start end k) ≡ Some s → Stand s.tags s.nodes
 stand_step start end bom us tags nodes s o h k m d e = subst (λ (r : Stage). Stand r.tags r.nodes) (same_Some _ _ e) h
 stand_step start end (declaration b) us tags nodes s o h k m d e = subst (λ (r : Stage). Stand r.tags r.nodes) (same_Some _ _ e) h
@@ -142,12 +142,12 @@ stand_step start end (end_tag name) us [] nodes s o h k m d e = absurd cc
 stand_step start end (end_tag name) us (t ∷ tags) nodes s o h k m d e = stand_end t tags nodes end s (bytes_eq t.name name) h e
 
 -- what units that break no rule lead to may stand there
-stand_from : (done us : List PlainUnit) (tags : List OpenTag) (nodes : List PlainNode) (s : Stage) → Opens (filter is_content done) tags nodes → Stand tags nodes → NoneBreaks Breaks (done ++ us) → run tags nodes us ≡ Some s → Stand s.tags s.nodes
+stand_from : (done us : List PlainUnit) (tags : List OpenTag) (nodes : List PlainNode) (s : Stage) → LeavesOpen (filter is_content done) tags nodes → Stand tags nodes → NoneBreaks BreaksUnitRule (done ++ us) → run tags nodes us ≡ Some s → Stand s.tags s.nodes
 stand_from done [] tags nodes s o h lawful e = subst (λ (r : Stage). Stand r.tags r.nodes) (same_Some _ _ e) h
 stand_from done (u ∷ us) tags nodes s o h lawful e =
     let one = then_some (step tags nodes u) (λ r. run r.tags r.nodes us) s e in
     let kept = stand_step u.start u.end u.kind done tags nodes one.0 o h (not_at_fault done us u tags nodes o lawful fault.UnknownTag) (not_at_fault done us u tags nodes o lawful fault.Misplaced) (not_at_fault done us u tags nodes o lawful fault.TooDeep) one.1 in
-    stand_from (done ++ u ∷ []) us one.0.tags one.0.nodes s (opens_step done u tags nodes one.0 o one.1) kept (subst (λ (vs : List PlainUnit). NoneBreaks Breaks vs) (sym (append_assoc done (u ∷ []) us)) lawful) one.2
+    stand_from (done ++ u ∷ []) us one.0.tags one.0.nodes s (opens_step done u tags nodes one.0 o one.1) kept (subst (λ (vs : List PlainUnit). NoneBreaks BreaksUnitRule vs) (sym (append_assoc done (u ∷ []) us)) lawful) one.2
 
 -- ---- the root
 

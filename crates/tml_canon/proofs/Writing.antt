@@ -8,7 +8,7 @@ use Rattle.std.proofs.lemmas.List.Elements.{filter-append}
 use Rattle.std.proofs.lemmas.Option.{same_Some}
 use Rattle.std.proofs.lemmas.Slice.Eq.{bytes_eq-Decides}
 use Rattle.tml_span.specs.Units.{Attribute, comment, text, start_tag, end_tag, empty_tag}
-use Rattle.tml_span.specs.Written.{kind_text}
+use Rattle.tml_span.specs.Written.{unit_text}
 use Rattle.tml_tree.specs.Nesting.{OpenTag, is_element}
 use Rattle.tml_tree.specs.Plain.{PlainNode, none, element, text_node, comment_node, nodes_of}
 use Rattle.tml_tree.specs.Stage.{Stage}
@@ -40,7 +40,7 @@ outer_leaf nodes n e = filter-append is_element nodes (n ∷ []) ∙ ap (λ (b :
 -- one more node inside a tag
 inner_more : (t : OpenTag) (tags : List OpenTag) (nodes : List PlainNode) (n : PlainNode) → open_text (t ∷ tags) (nodes ++ n ∷ []) ≡ open_text (t ∷ tags) nodes ++ node_text (canonical n)
 inner_more t tags nodes n =
-    let start = open_text tags t.before ++ kind_text (start_tag t.name (canonical_attributes t.attrs)) in
+    let start = open_text tags t.before ++ unit_text (start_tag t.name (canonical_attributes t.attrs)) in
     ap (λ (s : List ℕ). start ++ s) (nodes_text_more nodes n) ∙ sym (append_assoc start (canonical_nodes_text nodes) (node_text (canonical n)))
 
 -- one more element
@@ -65,7 +65,7 @@ pub closed_start : (tags : List OpenTag) (nodes : List PlainNode) → true ≡ e
 closed_start [] nodes e = absurd cc
 closed_start (t ∷ tags) [] e =
     append_assoc (open_text tags t.before) (opening t.name (canonical_attributes t.attrs)) (codes ">")
-    ∙ sym (append-nil (open_text tags t.before ++ kind_text (start_tag t.name (canonical_attributes t.attrs))))
+    ∙ sym (append-nil (open_text tags t.before ++ unit_text (start_tag t.name (canonical_attributes t.attrs))))
 closed_start (t ∷ tags) (n ∷ nodes) e = absurd cc
 
 pub has_close : (tags : List OpenTag) (nodes : List PlainNode) → false ≡ ends_bare tags nodes → text_so_far tags nodes ≡ open_text tags nodes
@@ -168,11 +168,11 @@ bare_element t tags end out e =
 
 -- after nodes
 full_element : (t : OpenTag) (tags : List OpenTag) (n : PlainNode) (nodes : List PlainNode) (end : ℕ) (out : List ℕ) → out ≡ text_so_far (t ∷ tags) (n ∷ nodes)
-    → out ++ kind_text (end_tag t.name) ≡ open_text tags t.before ++ node_text (canonical (element t.start end t.name t.attrs (nodes_of (n ∷ nodes))))
+    → out ++ unit_text (end_tag t.name) ≡ open_text tags t.before ++ node_text (canonical (element t.start end t.name t.attrs (nodes_of (n ∷ nodes))))
 full_element t tags n nodes end out e =
-    let start = kind_text (start_tag t.name (canonical_attributes t.attrs)) in
+    let start = unit_text (start_tag t.name (canonical_attributes t.attrs)) in
     let inner = canonical_nodes_text (n ∷ nodes) in
-    let close = kind_text (end_tag t.name) in
+    let close = unit_text (end_tag t.name) in
     ap (λ (s : List ℕ). s ++ close) e
     ∙ append_assoc (open_text tags t.before ++ start) inner close
     ∙ append_assoc (open_text tags t.before) start (inner ++ close)
@@ -197,9 +197,9 @@ module _ (name : List ℕ) (old new : Writer) (d : new.depth ≡ old.depth - 1) 
       ended t tags [] end name s new (bytes_eq t.name name) refl w (λ same. e ∙ bare_element t tags end old.text.items h.text) (d ∙ less_deep old.depth (length tags) h.depth) b
   bare_end is e (t ∷ tags) (n ∷ nodes) start end s few w h = let not = sym is ∙ h.is_bare in absurd cc
 
-  pub full_end : old.is_bare ≡ false → new.text.items ≡ old.text.items ++ kind_text (end_tag name) → Writes old (end_tag name) new
+  pub full_end : old.is_bare ≡ false → new.text.items ≡ old.text.items ++ unit_text (end_tag name) → Writes old (end_tag name) new
   full_end is e [] nodes start end s few w h = absurd cc
   full_end is e (t ∷ tags) [] start end s few w h = let not = sym is ∙ h.is_bare in absurd cc
   full_end is e (t ∷ tags) (n ∷ nodes) start end s few w h =
       ended t tags (n ∷ nodes) end name s new (bytes_eq t.name name) refl w
-      (λ same. e ∙ ap (λ (q : List ℕ). old.text.items ++ kind_text (end_tag q)) (sym same) ∙ full_element t tags n nodes end old.text.items h.text) (d ∙ less_deep old.depth (length tags) h.depth) b
+      (λ same. e ∙ ap (λ (q : List ℕ). old.text.items ++ unit_text (end_tag q)) (sym same) ∙ full_element t tags n nodes end old.text.items h.text) (d ∙ less_deep old.depth (length tags) h.depth) b

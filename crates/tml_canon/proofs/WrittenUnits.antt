@@ -7,11 +7,11 @@ use Rattle.std.proofs.lemmas.Grind.{flat_map-append}
 use Rattle.std.proofs.lemmas.List.{append-nil, length-map}
 use Rattle.std.proofs.lemmas.Option.{same_Some}
 use Rattle.tml_span.specs.Units.{Kind, PlainUnit, bom, declaration, doctype, comment, text, start_tag, end_tag, empty_tag}
-use Rattle.tml_span.specs.Written.{kind_text}
+use Rattle.tml_span.specs.Written.{unit_text}
 use Rattle.tml_tree.specs.Judging.{Passes, first_fault}
 use Rattle.tml_tree.specs.Nesting.{OpenTag, open_name}
 use Rattle.tml_tree.specs.Plain.{PlainNode, element, none, nodes_of, unit}
-use Rattle.tml_tree.specs.Rules.{History, is_unknown, is_misplaced}
+use Rattle.tml_tree.specs.Rules.{History, is_unknown_tag, is_misplaced}
 use Rattle.tml_tree.specs.Stage.{Stage, step}
 use Rattle.tml_tree.specs.Trees.{Document}
 use Rattle.tml_tree.specs.Written.{kinds_of, node_text}
@@ -39,7 +39,7 @@ few_names names tags e f = grind (arith, nat_tests)
 room : (name : List ℕ) (h : History) (tags : List OpenTag) → h.names ≡ map open_name tags → first_fault h (start_tag name []) ≡ None → length tags < 32
 room name h tags n f =
     let same : length (map open_name tags) ≡ length tags = simp length-map in
-    few_names (length h.names) (length tags) (ap length n ∙ same) (flat (is_unknown (start_tag name [])) false (is_misplaced h (start_tag name [])) (nat_le 32 (length h.names)) f)
+    few_names (length h.names) (length tags) (ap length n ∙ same) (flat (is_unknown_tag (start_tag name [])) false (is_misplaced h (start_tag name [])) (nat_le 32 (length h.names)) f)
 
 few_closed : (t : OpenTag) (tags : List OpenTag) (nodes : List PlainNode) (end : ℕ) (s : Stage) (b : Bool) → length (t ∷ tags) ≤ 32
     → cond b (Some (record { tags = tags; nodes = t.before ++ element t.start end t.name t.attrs (nodes_of nodes) ∷ [] })) None ≡ Some s → length s.tags ≤ 32
@@ -75,7 +75,7 @@ units_more us u old new w v passes h writes =
 alone : (root : PlainNode) → canonical_nodes_text (root ∷ []) ++ codes "\n" ≡ canonical_text root
 alone root =
     let one : canonical_nodes_text (root ∷ []) ≡ node_text (canonical root) = nodes_text-more (canonical root) none ∙ append-nil (node_text (canonical root)) in
-    ap (λ (s : List ℕ). s ++ codes "\n") one ∙ sym (flat_map-append kind_text (kinds_of (canonical root)) (text (codes "\n") ∷ []))
+    ap (λ (s : List ℕ). s ++ codes "\n") one ∙ sym (flat_map-append unit_text (kinds_of (canonical root)) (text (codes "\n") ∷ []))
 
 pub finished : (us : List PlainUnit) (h : History) (root : PlainNode) (w : Writer) → HasWrittenUnits us h w → Document root us → w.text.items ++ codes "\n" ≡ canonical_text root
 finished us h root w all d =

@@ -9,7 +9,7 @@ use Rattle.tml_types.specs.TagReader.{HasJudged, OfUnits}
 use Rattle.tml_types.specs.View.{typed_of}
 use Rattle.tml_types.specs.Whole.{Types}
 use Rattle.tml_refs.specs.declared.resolver.Resolver.{Resolver}
-use Rattle.tml_refs.specs.Taking.{HasTaken, MayTake, Takes}
+use Rattle.tml_refs.specs.Taking.{HasTakenTags, MayTake, Takes}
 use Rattle.tml_canon.specs.declared.document.Taken.{Taken}
 use Rattle.tml_canon.specs.Writing.{HasWrittenUnits}
 
@@ -27,14 +27,14 @@ pub record HasTakenUnits (source : List ℕ) (r : TagReader) (t : Taken) : Type 
   pub us : List PlainUnit
   pub typed : List PlainTyped
   pub given : HasJudged source us typed r
-  pub taken : HasTaken typed t.resolver
+  pub taken : HasTakenTags typed t.resolver
   pub written : HasWrittenUnits us r.nesting t.writer
 
 -- all units of a source are written, which make a tree, and all its typed tags were taken, none of which breaks a rule
-pub record HasTakenAll (source : List ℕ) (t : Taken) : Type 0 where
+pub record HasWrittenAll (source : List ℕ) (t : Taken) : Type 0 where
   pub us : List PlainUnit
   pub typed : List PlainTyped
   pub tree : OfUnits source us (λ tags. Types tags typed)
-  pub taken : HasTaken typed t.resolver
+  pub taken : HasTakenTags typed t.resolver
   pub history : History
   pub written : HasWrittenUnits us history t.writer

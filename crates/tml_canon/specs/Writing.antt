@@ -2,7 +2,7 @@
 use Rattle.std.specs.Prelude.{◌≡◌, ◌≤◌, ℕ, Bool, true, false, List, [], ◌∷◌, ◌++◌, length, Some}
 use Rattle.std.specs.List.{filter}
 use Rattle.tml_span.specs.Units.{Kind, PlainUnit, start_tag}
-use Rattle.tml_span.specs.Written.{kind_text, written}
+use Rattle.tml_span.specs.Written.{unit_text, written}
 use Rattle.tml_tree.specs.Judging.{HavePassed}
 use Rattle.tml_tree.specs.Nesting.{OpenTag, is_element}
 use Rattle.tml_tree.specs.Plain.{PlainNode, nodes_of, unit}
@@ -20,7 +20,7 @@ canonical_nodes_text nodes = written (all_kinds (canonical_nodes (nodes_of nodes
 -- What is open, as far as it is written when something follows: the elements outside all tags, and for each open tag its start tag and the nodes after it.
 abbrev pub open_text : List OpenTag → List PlainNode → List ℕ
 open_text [] nodes = canonical_nodes_text (filter is_element nodes)
-open_text (t ∷ tags) nodes = open_text tags t.before ++ kind_text (start_tag t.name (canonical_attributes t.attrs)) ++ canonical_nodes_text nodes
+open_text (t ∷ tags) nodes = open_text tags t.before ++ unit_text (start_tag t.name (canonical_attributes t.attrs)) ++ canonical_nodes_text nodes
 
 -- nothing follows the innermost open tag
 abbrev pub ends_bare : List OpenTag → List PlainNode → Bool

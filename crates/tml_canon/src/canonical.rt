@@ -4,7 +4,7 @@ ghost use Rattle.std.specs.Prelude.{IfOk, OnOk, codes, map, ◌++◌, ◌≡◌}
 ghost use Rattle.tml_canon.specs.Canonical as spec;
 ghost use Rattle.tml_span.specs.Units.{end_tag};
 ghost use Rattle.tml_span.specs.View.{attribute_of};
-ghost use Rattle.tml_span.specs.Written.{attribute_text, kind_text};
+ghost use Rattle.tml_span.specs.Written.{attribute_text, unit_text};
 ghost use Rattle.tml_tree.specs.Plain.{PlainNode};
 ghost use Rattle.tml_tree.specs.View.{node_of, tag_node};
 ghost use Rattle.tml_tree.specs.Whole.{IsTreeOf};
@@ -95,7 +95,7 @@ pub fn push_opening<'s>(
 
 /// Appends an end tag.
 pub fn push_end_tag(out: &mut Vec<u8>, name: &[u8]) -> Result<(), AllocError>
-    ensures { OnOk result (out.new.items ≡ out.old.items ++ kind_text (end_tag name.now)) }
+    ensures { OnOk result (out.new.items ≡ out.old.items ++ unit_text (end_tag name.now)) }
 {
     out.extend_from_slice(b"</")?;
     out.extend_from_slice(name)?;

@@ -3,7 +3,7 @@ ghost use Rattle.std.specs.Prelude.{◌≤◌, length, IfOk, IfErr, IfSome, OnOk
 ghost use Rattle.net_core.specs.Limits.{max_document};
 ghost use Rattle.tml_accept.specs.Acceptance.{Accepted, FirstFault};
 ghost use Rattle.tml_canon.specs.Canonical.{IsCanonicalText};
-ghost use Rattle.tml_canon.specs.Taking.{HasTakenAll, MayTakeTag, TakesTag};
+ghost use Rattle.tml_canon.specs.Taking.{HasWrittenAll, MayTakeTag, TakesTag};
 ghost use Rattle.tml_canon.specs.Writing.{Writes};
 ghost use Rattle.tml_span.specs.View.{unit_of};
 
@@ -68,7 +68,7 @@ impl<'s> Taken<'s> {
 /// All that is taken of a document, or the first fault of its bytes, its units, their nesting or its attributes.
 fn take_all<'s>(alloc: Global, doc: &'s [u8]) -> Result<Taken<'s>, Fault>
     requires { length doc.now ≤ max_document }
-    ensures ok { IfOk result (HasTakenAll doc.now) }
+    ensures ok { IfOk result (HasWrittenAll doc.now) }
     ensures err { IfErr result (λ fault. IfSome fault (λ f. FirstFault doc.now f.0 f.1)) }
 {
     let mut tags = match TagReader::new(alloc, doc) {

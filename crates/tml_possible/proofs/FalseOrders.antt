@@ -13,7 +13,7 @@ use Rattle.net_core.specs.declared.atom.PairOrder.TheVariants.{ABefore, ANoLater
 use Rattle.net_core.specs.declared.net.Ends.{Ends}
 use Rattle.net_core.specs.declared.rels.Rel.{Rel}
 use Rattle.order_closure.specs.Between.{AreGiven}
-use Rattle.order_closure.specs.Cells.{Says, joined, strength}
+use Rattle.order_closure.specs.Cells.{CellSays, joined, strength}
 use Rattle.order_closure.specs.Tables.{IsClosed, Keeps, Table, cell_at}
 use Rattle.order_closure.specs.declared.cell.Cell.{Cell}
 use Rattle.order_closure.specs.declared.cell.Cell.TheVariants.{Free, Weak, Strict}
@@ -103,7 +103,7 @@ back_is_free forth Weak itself e k h = absurd (let over = joined_over forth Weak
 back_is_free forth Strict itself e k h = absurd (let over = joined_over forth Strict itself e k h in omega (arith, over))
 
 -- what is true in some order is said by any cell
-any_says : (x : Cell) (m n : ℕ) → m < n → Says x m n
+any_says : (x : Cell) (m n : ℕ) → m < n → CellSays x m n
 any_says Free m n h = tt
 any_says Weak m n h = omega (arith, h)
 any_says Strict m n h = h
@@ -112,11 +112,11 @@ module _ (table : Table) (a b set : ℕ) (closed : IsClosed table) (given : AreG
     (first : cell_at table (2 * a) (2 * a + 1) ≡ Strict) (second : cell_at table (2 * b) (2 * b + 1) ≡ Strict) (r : Rel) (base : Contains base_rels r) where
   -- the points of an interval that starts before it ends
   inner : (i : ℕ) (x : Ends) → 2 * i + 1 < table.points → cell_at table (2 * i) (2 * i + 1) ≡ Strict → x.start < x.finish → AreKeptFrom table i i x x
-  inner i x lt is h Start Start = subst (λ (c : Cell). Says c x.start x.start) (sym (closed.itself (2 * i) (omega (arith, lt)))) (omega arith)
+  inner i x lt is h Start Start = subst (λ (c : Cell). CellSays c x.start x.start) (sym (closed.itself (2 * i) (omega (arith, lt)))) (omega arith)
   inner i x lt is h Start Finish = any_says (cell_at table (2 * i) (2 * i + 1)) x.start x.finish h
-  inner i x lt is h Finish Start = subst (λ (c : Cell). Says c x.finish x.start) (sym (back_is_free (cell_at table (2 * i) (2 * i + 1)) (cell_at table (2 * i + 1) (2 * i)) (cell_at table (2 * i) (2 * i)) is
+  inner i x lt is h Finish Start = subst (λ (c : Cell). CellSays c x.finish x.start) (sym (back_is_free (cell_at table (2 * i) (2 * i + 1)) (cell_at table (2 * i + 1) (2 * i)) (cell_at table (2 * i) (2 * i)) is
       (closed.itself (2 * i) (omega (arith, lt))) (closed.through (2 * i) (2 * i + 1) (2 * i) (omega (arith, lt)) lt (omega (arith, lt))))) tt
-  inner i x lt is h Finish Finish = subst (λ (c : Cell). Says c x.finish x.finish) (sym (closed.itself (2 * i + 1) lt)) (omega arith)
+  inner i x lt is h Finish Finish = subst (λ (c : Cell). CellSays c x.finish x.finish) (sym (closed.itself (2 * i + 1) lt)) (omega arith)
 
   -- where all given orders are true of its example, the relation can hold
   true_can : ((o : PairOrder) → HasBit set o → IsTrueOf (example r).0 (example r).1 o) → CanHold table a r b

@@ -13,13 +13,13 @@ use Rattle.net_core.specs.declared.rels.Rel.{Rel}
 use Rattle.net_core.specs.declared.rels.Rel.TheVariants as rel
 use Rattle.net_core.proofs.RelLaws.{in_table}
 use Rattle.order_closure.specs.Between.{AreGiven}
-use Rattle.order_closure.specs.Cells.{Says}
+use Rattle.order_closure.specs.Cells.{CellSays}
 use Rattle.order_closure.specs.Tables.{IsClosed, Table, cell_at}
 use Rattle.order_closure.specs.declared.cell.Cell.TheVariants.{Strict}
 use Rattle.tml_possible.specs.Examples.{false_orders}
 use Rattle.tml_possible.specs.Possible.{CanHold}
 use Rattle.tml_possible.specs.Sets.{AreMore, IsSetOf, base_number, has}
-use Rattle.tml_possible.specs.Trying.{AreKeptAmong, AreKeptFrom, ranks_of}
+use Rattle.tml_possible.specs.Trying.{AreKeptAmong, AreKeptFrom, end_ranks}
 use Rattle.tml_possible.specs.declared.base_set.BaseSet.{BaseSet}
 use Rattle.tml_possible.specs.declared.possible_sets.TheConstants.{FALSE_ORDERS}
 use Rattle.tml_possible.proofs.Bases.{base_is_numbered, has_bit, none_there, not_numbered, numbered, numbered_is_base}
@@ -85,26 +85,26 @@ all_taken P set new rels e more r = (
 
 -- the relation holds of ranks with a number below this one, which the cells allow
 abbrev HoldsBelow : Table → ℕ → ℕ → ℕ → Rel → Type 0
-HoldsBelow table a b code r = (n : ℕ) × (n < code) × AreKeptAmong table a b (ranks_of n).0 (ranks_of n).1 × Holds (ranks_of n).0 r (ranks_of n).1
+HoldsBelow table a b code r = (n : ℕ) × (n < code) × AreKeptAmong table a b (end_ranks n).0 (end_ranks n).1 × Holds (end_ranks n).0 r (end_ranks n).1
 
 module _ (table : Table) (a b code : ℕ) (set : BaseSet) (so_far : IsSetOf (HoldsBelow table a b code) set) where
-  pub kept_next : (new : BaseSet) → AreKeptAmong table a b (ranks_of code).0 (ranks_of code).1 → AreMore set (λ r. Holds (ranks_of code).0 r (ranks_of code).1) new → IsSetOf (HoldsBelow table a b (code + 1)) new
+  pub kept_next : (new : BaseSet) → AreKeptAmong table a b (end_ranks code).0 (end_ranks code).1 → AreMore set (λ r. Holds (end_ranks code).0 r (end_ranks code).1) new → IsSetOf (HoldsBelow table a b (code + 1)) new
   kept_next new kept more r = (
     λ h. elim ((more r).0 h) [
       | inl before ↦ let (base, (n, lt, kept, holds)) = (so_far r).0 before in (base, (n, omega (arith, lt), kept, holds))
       | inr here ↦ (here.0, (code, omega arith, kept, here.1))
     ],
     λ h. (more r).1 (elim (cases_eq h.1.0 code) [
-      | inl same ↦ inr (h.0, subst (λ (n : ℕ). Holds (ranks_of n).0 r (ranks_of n).1) same h.1.3)
+      | inl same ↦ inr (h.0, subst (λ (n : ℕ). Holds (end_ranks n).0 r (end_ranks n).1) same h.1.3)
       | inr other ↦ inl ((so_far r).1 (h.0, (h.1.0, omega (arith, h.1.1, other), h.1.2, h.1.3)))
     ]),
   )
 
-  pub not_kept_next : ¬ AreKeptAmong table a b (ranks_of code).0 (ranks_of code).1 → IsSetOf (HoldsBelow table a b (code + 1)) set
+  pub not_kept_next : ¬ AreKeptAmong table a b (end_ranks code).0 (end_ranks code).1 → IsSetOf (HoldsBelow table a b (code + 1)) set
   not_kept_next not r = (
     λ h. let (base, (n, lt, kept, holds)) = (so_far r).0 h in (base, (n, omega (arith, lt), kept, holds)),
     λ h. elim (cases_eq h.1.0 code) [
-      | inl same ↦ absurd (not (subst (λ (n : ℕ). AreKeptAmong table a b (ranks_of n).0 (ranks_of n).1) same h.1.2))
+      | inl same ↦ absurd (not (subst (λ (n : ℕ). AreKeptAmong table a b (end_ranks n).0 (end_ranks n).1) same h.1.2))
       | inr other ↦ (so_far r).1 (h.0, (h.1.0, omega (arith, h.1.1, other), h.1.2, h.1.3))
     ],
   )
@@ -112,7 +112,7 @@ module _ (table : Table) (a b code : ℕ) (set : BaseSet) (so_far : IsSetOf (Hol
 -- all of them are tried
 pub all_tried : (table : Table) (a b code : ℕ) (set : BaseSet) → IsClosed table → 2 * a + 1 < table.points → 2 * b + 1 < table.points → 256 ≤ code → IsSetOf (HoldsBelow table a b code) set → IsSetOf (λ r. CanHold table a r b) set
 all_tried table a b code set closed fa fb at are r = (
-  λ h. let (base, (n, lt, kept, holds)) = (are r).0 h in (base, can_hold table a b closed fa fb (ranks_of n).0 (ranks_of n).1 kept r holds),
+  λ h. let (base, (n, lt, kept, holds)) = (are r).0 h in (base, can_hold table a b closed fa fb (end_ranks n).0 (end_ranks n).1 kept r holds),
   λ h.
       let (base, (t, kept, holds)) = h in
       let (n, lt, allowed, here) = found t a b table fa fb kept r holds in
@@ -129,15 +129,15 @@ all_four true false u v = (λ h. let e : false ≡ true = h in cc, λ h. let e =
 all_four false s u v = (λ h. let e : false ≡ true = h in cc, λ h. let e = h.0 in cc)
 
 pub points_kept : (table : Table) (a b : ℕ) (x y : Ends) (r s u v : Bool)
-    → (IsTrue r ↔ Says (cell_at table (2 * a) (2 * b)) x.start y.start) → (IsTrue s ↔ Says (cell_at table (2 * a) (2 * b + 1)) x.start y.finish)
-    → (IsTrue u ↔ Says (cell_at table (2 * a + 1) (2 * b)) x.finish y.start) → (IsTrue v ↔ Says (cell_at table (2 * a + 1) (2 * b + 1)) x.finish y.finish)
+    → (IsTrue r ↔ CellSays (cell_at table (2 * a) (2 * b)) x.start y.start) → (IsTrue s ↔ CellSays (cell_at table (2 * a) (2 * b + 1)) x.start y.finish)
+    → (IsTrue u ↔ CellSays (cell_at table (2 * a + 1) (2 * b)) x.finish y.start) → (IsTrue v ↔ CellSays (cell_at table (2 * a + 1) (2 * b + 1)) x.finish y.finish)
     → IsTrue (((r && s) && u) && v) ↔ AreKeptFrom table a b x y
 points_kept table a b x y r s u v starts back across finishes = (
   λ h. let all = (all_four r s u v).0 h in each (starts.0 all.0) (back.0 all.1) (across.0 all.2) (finishes.0 all.3),
   λ kept. (all_four r s u v).1 (starts.1 (kept Start Start), back.1 (kept Start Finish), across.1 (kept Finish Start), finishes.1 (kept Finish Finish)),
 )
   where
-    each : Says (cell_at table (2 * a) (2 * b)) x.start y.start → Says (cell_at table (2 * a) (2 * b + 1)) x.start y.finish → Says (cell_at table (2 * a + 1) (2 * b)) x.finish y.start → Says (cell_at table (2 * a + 1) (2 * b + 1)) x.finish y.finish
+    each : CellSays (cell_at table (2 * a) (2 * b)) x.start y.start → CellSays (cell_at table (2 * a) (2 * b + 1)) x.start y.finish → CellSays (cell_at table (2 * a + 1) (2 * b)) x.finish y.start → CellSays (cell_at table (2 * a + 1) (2 * b + 1)) x.finish y.finish
         → AreKeptFrom table a b x y
     each ss sf fs ff Start Start = ss
     each ss sf fs ff Start Finish = sf

@@ -1,7 +1,8 @@
 -- There is one list of the base relations that have a property, and one of items.
-use Rattle.std.proofs.Common.{◌≡◌, ◌↔◌, ℕ, Bool, true, false, List, [], ◌∷◌, refl, sym, subst, ◌∙◌}
+use Rattle.std.proofs.Common.{◌≡◌, ◌↔◌, ℕ, Bool, List, [], ◌∷◌, refl, sym, subst, ◌∙◌}
 use Rattle.std.specs.Prelude.{cond}
 use Rattle.std.specs.List.{All, AllByRecursion, Contains, filter}
+use Rattle.std.proofs.lemmas.Bool.Decides.{same_from_decides}
 use Rattle.std.proofs.lemmas.List.Elements.{All-contains_itself, All-head, All-tail, All-weaker, recursion_from_All}
 use Rattle.net_core.specs.BaseRelations.{base_rels}
 use Rattle.net_core.specs.Least.{AreLeast}
@@ -11,15 +12,9 @@ use Rattle.order_closure.proofs.LeastRanks.{one_least_of, same_ranks}
 use Rattle.tml_possible.specs.Possible.{AreBaseWith, AreShown, HoldsInSome, IsShown, Tells, rels_of}
 use Rattle.tml_possible.specs.declared.timelines.PossibleItem.{PossibleItem}
 
--- two tests that say the same
-same_test : (x y : Bool) → ((x ≡ true) ↔ (y ≡ true)) → x ≡ y
-same_test true y same = sym (same.0 refl)
-same_test false true same = same.1 refl
-same_test false false same = refl
-
 -- two tests that tell one property agree on base relations
 tests_agree : (P : Rel → Type 0) (test other : Rel → Bool) → Tells test P → Tells other P → (r : Rel) → Contains base_rels r → test r ≡ other r
-tests_agree P test other tells too r base = same_test (test r) (other r) (λ h. (too r base).1 ((tells r base).0 h), λ h. (tells r base).1 ((too r base).0 h))
+tests_agree P test other tells too r base = same_from_decides (test r) (other r) (tells r base) (too r base)
 
 -- tests that agree on a list keep the same of it
 filters_agree : (test other : Rel → Bool) (rels : List Rel) → AllByRecursion (λ r. test r ≡ other r) rels → filter test rels ≡ filter other rels

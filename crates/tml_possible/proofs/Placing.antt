@@ -15,7 +15,7 @@ use Rattle.net_core.specs.declared.atom.PairOrder.TheVariants.{ABefore, ANoLater
 use Rattle.net_core.specs.declared.net.Ends.{Ends}
 use Rattle.net_core.specs.declared.rels.Rel.{Rel}
 use Rattle.net_core.proofs.AtomLaws.{all_mapped, atoms_say_the_relation}
-use Rattle.order_closure.specs.Cells.{Says}
+use Rattle.order_closure.specs.Cells.{CellSays}
 use Rattle.order_closure.specs.Chosen.{KeepsAmong, OrderAlike}
 use Rattle.order_closure.specs.Tables.{IsClosed, Table, cell_at}
 use Rattle.order_closure.specs.declared.cell.Cell.{Cell}
@@ -101,10 +101,10 @@ module _ (table : Table) (a b : ℕ) (closed : IsClosed table) (fa : 2 * a + 1 <
     one_rank : (p : End) → a ≡ b → point_in x p ≡ point_in y p
     one_rank p e =
         let cell : cell_at table (point_in (points_of a) p) (point_in (points_of a) p) ≡ Weak = closed.itself (point_in (points_of a) p) (in_table (point_in (points_of a) p) (of_first a b p)) in
-        let forth : Says Weak (point_in x p) (point_in y p) = subst (λ (c : Cell). Says c (point_in x p) (point_in y p)) cell
-        (subst (λ (i : ℕ). Says (cell_at table (point_in (points_of a) p) (point_in (points_of i) p)) (point_in x p) (point_in y p)) (sym e) (kept.forth p p)) in
-        let back : Says Weak (point_in y p) (point_in x p) = subst (λ (c : Cell). Says c (point_in y p) (point_in x p)) cell
-        (subst (λ (i : ℕ). Says (cell_at table (point_in (points_of i) p) (point_in (points_of a) p)) (point_in y p) (point_in x p)) (sym e) (kept.back p p)) in
+        let forth : CellSays Weak (point_in x p) (point_in y p) = subst (λ (c : Cell). CellSays c (point_in x p) (point_in y p)) cell
+        (subst (λ (i : ℕ). CellSays (cell_at table (point_in (points_of a) p) (point_in (points_of i) p)) (point_in x p) (point_in y p)) (sym e) (kept.forth p p)) in
+        let back : CellSays Weak (point_in y p) (point_in x p) = subst (λ (c : Cell). CellSays c (point_in y p) (point_in x p)) cell
+        (subst (λ (i : ℕ). CellSays (cell_at table (point_in (points_of i) p) (point_in (points_of a) p)) (point_in y p) (point_in x p)) (sym e) (kept.back p p)) in
         omega (arith, forth, back)
 
     on_second : (p : End) → placed (point_in (points_of b) p) ≡ point_in y p
@@ -118,14 +118,14 @@ module _ (table : Table) (a b : ℕ) (closed : IsClosed table) (fa : 2 * a + 1 <
         apart Finish ne = grind (arith, nat_tests)
 
     keeps : KeepsAmong table (four_points a b) placed
-    keeps i j ci cj = each_point a b (λ i. Says (cell_at table i j) (placed i) (placed j)) (λ p. from_first p) (λ p. from_second p) i ci
+    keeps i j ci cj = each_point a b (λ i. CellSays (cell_at table i j) (placed i) (placed j)) (λ p. from_first p) (λ p. from_second p) i ci
       where
-        from_first : (p : End) → Says (cell_at table (point_in (points_of a) p) j) (placed (point_in (points_of a) p)) (placed j)
-        from_first p = each_point a b (λ j. Says (cell_at table (point_in (points_of a) p) j) (placed (point_in (points_of a) p)) (placed j))
+        from_first : (p : End) → CellSays (cell_at table (point_in (points_of a) p) j) (placed (point_in (points_of a) p)) (placed j)
+        from_first p = each_point a b (λ j. CellSays (cell_at table (point_in (points_of a) p) j) (placed (point_in (points_of a) p)) (placed j))
             (λ q. rw (on_first p, on_first q) (kept.first p q)) (λ q. rw (on_first p, on_second q) (kept.forth p q)) j cj
 
-        from_second : (p : End) → Says (cell_at table (point_in (points_of b) p) j) (placed (point_in (points_of b) p)) (placed j)
-        from_second p = each_point a b (λ j. Says (cell_at table (point_in (points_of b) p) j) (placed (point_in (points_of b) p)) (placed j))
+        from_second : (p : End) → CellSays (cell_at table (point_in (points_of b) p) j) (placed (point_in (points_of b) p)) (placed j)
+        from_second p = each_point a b (λ j. CellSays (cell_at table (point_in (points_of b) p) j) (placed (point_in (points_of b) p)) (placed j))
             (λ q. rw (on_second p, on_first q) (kept.back p q)) (λ q. rw (on_second p, on_second q) (kept.second p q)) j cj
 
     -- so a relation that holds of them can hold

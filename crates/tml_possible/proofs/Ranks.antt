@@ -10,12 +10,12 @@ use Rattle.net_core.specs.declared.atom.End.{End}
 use Rattle.net_core.specs.declared.atom.End.TheVariants.{Start, Finish}
 use Rattle.net_core.specs.declared.net.Ends.{Ends}
 use Rattle.net_core.specs.declared.rels.Rel.{Rel}
-use Rattle.order_closure.specs.Cells.{Says}
+use Rattle.order_closure.specs.Cells.{CellSays}
 use Rattle.order_closure.specs.Chosen.{OrderAlike}
 use Rattle.order_closure.specs.Tables.{Keeps, Table, cell_at}
 use Rattle.order_closure.specs.declared.cell.Cell.{Cell}
 use Rattle.order_closure.specs.declared.cell.Cell.TheVariants.{Free, Weak, Strict}
-use Rattle.tml_possible.specs.Trying.{AreKeptAmong, ranks_of}
+use Rattle.tml_possible.specs.Trying.{AreKeptAmong, end_ranks}
 use Rattle.tml_possible.proofs.Placing.{each_point, four_points, of_first, of_second, place_of, related_alike}
 
 -- one where the first number is below the second, and else none
@@ -91,7 +91,7 @@ module _ (t : Timeline) (a b : ℕ) where
   )
 
   -- what a cell says of two places it says of their ranks
-  says_ranked : (x : Cell) (i j : ℕ) → Contains (four_points a b) i → Says x (t i) (t j) → Says x (ranked i) (ranked j)
+  says_ranked : (x : Cell) (i j : ℕ) → Contains (four_points a b) i → CellSays x (t i) (t j) → CellSays x (ranked i) (ranked j)
   says_ranked Free i j ci h = tt
   says_ranked Weak i j ci h = rank_more (t i) (t j) h
   says_ranked Strict i j ci h = rank_less i ci (t j) h
@@ -101,7 +101,7 @@ module _ (t : Timeline) (a b : ℕ) where
   code = ranked (2 * a) + 4 * ranked (2 * a + 1) + 16 * ranked (2 * b) + 64 * ranked (2 * b + 1)
 
   -- their ranks by that number
-  ranks_are : ranks_of code ≡ (ends_of ranked a, ends_of ranked b)
+  ranks_are : end_ranks code ≡ (ends_of ranked a, ends_of ranked b)
   ranks_are =
       let w = rank_small (2 * a) (of_first a b Start) in
       let x = rank_small (2 * a + 1) (of_first a b Finish) in
@@ -109,7 +109,7 @@ module _ (t : Timeline) (a b : ℕ) where
       let z = rank_small (2 * b + 1) (of_second a b Finish) in
       digits (ranked (2 * a)) (ranked (2 * a + 1)) (ranked (2 * b)) (ranked (2 * b + 1)) w x y z
     where
-      digits : (w x y z : ℕ) → w < 4 → x < 4 → y < 4 → z < 4 → ranks_of (w + 4 * x + 16 * y + 64 * z) ≡ (record { start = w; finish = x }, record { start = y; finish = z })
+      digits : (w x y z : ℕ) → w < 4 → x < 4 → y < 4 → z < 4 → end_ranks (w + 4 * x + 16 * y + 64 * z) ≡ (record { start = w; finish = x }, record { start = y; finish = z })
       digits w x y z lw lx ly lz =
           let n = w + 4 * x + 16 * y + 64 * z in
           let first : n % 4 ≡ w = omega (arith, lw) in
@@ -120,7 +120,7 @@ module _ (t : Timeline) (a b : ℕ) where
 
   -- so a timeline that keeps a table is found among them
   pub found : (table : Table) → 2 * a + 1 < table.points → 2 * b + 1 < table.points → Keeps table t → (r : Rel) → Relates t a r b
-      → (n : ℕ) × (n < 256) × AreKeptAmong table a b (ranks_of n).0 (ranks_of n).1 × Holds (ranks_of n).0 r (ranks_of n).1
+      → (n : ℕ) × (n < 256) × AreKeptAmong table a b (end_ranks n).0 (end_ranks n).1 × Holds (end_ranks n).0 r (end_ranks n).1
   found table fa fb kept r holds = (
     code,
     omega (arith, rank_small (2 * a) (of_first a b Start), rank_small (2 * a + 1) (of_first a b Finish), rank_small (2 * b) (of_second a b Start), rank_small (2 * b + 1) (of_second a b Finish)),
@@ -138,7 +138,7 @@ module _ (t : Timeline) (a b : ℕ) where
       inside i Finish lt = lt
 
       moved : (i j : ℕ) (p q : End) → Contains (four_points a b) (point_in (points_of i) p) → 2 * i + 1 < table.points → 2 * j + 1 < table.points
-          → Says (cell_at table (point_in (points_of i) p) (point_in (points_of j) q)) (point_in (ends_of ranked i) p) (point_in (ends_of ranked j) q)
+          → CellSays (cell_at table (point_in (points_of i) p) (point_in (points_of j) q)) (point_in (ends_of ranked i) p) (point_in (ends_of ranked j) q)
       moved i j p q is li lj = rw (← place_of ranked i p, ← place_of ranked j q)
           (says_ranked (cell_at table (point_in (points_of i) p) (point_in (points_of j) q)) (point_in (points_of i) p) (point_in (points_of j) q) is
           (kept (point_in (points_of i) p) (point_in (points_of j) q) (inside i p li) (inside j q lj)))

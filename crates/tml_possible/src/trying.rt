@@ -1,6 +1,6 @@
 //! The base relations that two intervals can have, by trying all orders of their four points.
 ghost use Rattle.net_core.specs.Relations.{Holds};
-ghost use Rattle.order_closure.specs.Cells.{Says};
+ghost use Rattle.order_closure.specs.Cells.{CellSays};
 ghost use Rattle.order_closure.specs.Tables.{cell_at};
 ghost use Rattle.std.specs.Prelude.{IsTrue, ◌%◌, ◌*◌, ◌+◌, ◌<◌, ◌≡◌, ◌↔◌};
 ghost use Rattle.tml_possible.specs.Possible.{CanHold};
@@ -34,7 +34,7 @@ pub fn tried(closed: &Closed, a: u32, b: u32) -> BaseSet
 
 /// Ranks below 4 of two intervals: the digits of a number below 256 in base 4.
 fn ranks_of(code: u32) -> (Ends, Ends)
-    ensures { result ≡ spec.ranks_of code }
+    ensures { result ≡ spec.end_ranks code }
 {
     let of_a = Ends {
         start: code % 4,
@@ -76,7 +76,7 @@ fn are_kept_from(closed: &Closed, a: u32, b: u32, of_a: Ends, of_b: Ends) -> boo
 
 /// Whether what a cell says is true of the ranks of its points.
 fn is_true(cell: Cell, first: u32, second: u32) -> bool
-    ensures { IsTrue result ↔ Says cell first second }
+    ensures { IsTrue result ↔ CellSays cell first second }
 {
     match cell {
         Cell::Free => true,

@@ -23,7 +23,7 @@ use Rattle.tml_refs.specs.declared.document.DocLink.{DocLink}
 use Rattle.tml_refs.specs.Answers.{AllAreResolved}
 use Rattle.tml_refs.specs.Documents.{IsLinkOf, RefersTo, counts_of, intervals_of}
 use Rattle.tml_refs.specs.NameIndex.{IsOfIntervals}
-use Rattle.tml_refs.specs.Rules.{Breaks, breaks, is_target, is_tlink, is_unknown}
+use Rattle.tml_refs.specs.Rules.{BreaksReferenceRule, breaks, is_target, is_tlink, is_unknown}
 use Rattle.tml_refs.proofs.Knowing.{refers_at}
 use Rattle.tml_refs.proofs.Lists.{all_paired, passes_at}
 use Rattle.tml_refs.proofs.Locating.{with_content}
@@ -57,7 +57,7 @@ module _ (all : List PlainTyped) where
   ]
 
   -- so have all, where no tag breaks a rule and each is that of a tag of the tree
-  links : All (λ (t : PlainTyped). (tag : PlainTag) × TypedAs tag t) all → NoneBreaks (Breaks all) all → (links : List DocLink) × AllZip (IsLinkOf (intervals_of all)) (filter is_tlink all) links
+  links : All (λ (t : PlainTyped). (tag : PlainTag) × TypedAs tag t) all → NoneBreaks (BreaksReferenceRule all) all → (links : List DocLink) × AllZip (IsLinkOf (intervals_of all)) (filter is_tlink all) links
   links typed sound =
       let unknown = λ (_ : Unit {0}) (t : PlainTyped). list_any (is_unknown all) (references_of t.content) ≡ true in
       let known = all_of_none unknown all (λ before after t _ whole b. sound before after t kinds.UnknownReference whole b) in
@@ -66,7 +66,7 @@ module _ (all : List PlainTyped) where
       link (get_or (filter is_tlink all) k d) tag.0 tag.1.fields (false_from_ne_true _ (All-filter is_tlink (Sound unknown) all known k d within tt)) (filter_passes is_tlink all k d within))
 
 pub all_are_resolved : AllAreResolved
-all_are_resolved = λ tags all types. elim (first_or_none (Breaks all) number_of place_of (λ rule before t. Bool-discrete (breaks all rule before t) true) all_kinds every_kind all) [
+all_are_resolved = λ tags all types. elim (first_or_none (BreaksReferenceRule all) number_of place_of (λ rule before t. Bool-discrete (breaks all rule before t) true) all_kinds every_kind all) [
   | inl fault ↦ inr fault
   | inr sound ↦
       let links = links all (all_paired TypedAs (filter has_rows tags) all types.typed_tags) sound in

@@ -11,19 +11,19 @@ use Rattle.faults.specs.declared.kind.FaultKind.TheVariants.{TooManyIntervals, T
 use Rattle.faults.specs.First.{NoneBreaks}
 use Rattle.net_core.specs.Limits.{max_intervals, max_links}
 use Rattle.tml_types.specs.Content as content
-use Rattle.tml_types.specs.Content.{Content, PlainTyped}
+use Rattle.tml_types.specs.Content.{PlainTyped}
 use Rattle.tml_refs.specs.declared.document.DocLink.{DocLink}
 use Rattle.tml_refs.specs.Documents.{IsDocument, IsLinkOf, PlainDocument, PlainInterval, Resolved, interval_of, intervals_of}
-use Rattle.tml_refs.specs.Rules.{Breaks, is_interval, is_tlink}
+use Rattle.tml_refs.specs.Rules.{BreaksReferenceRule, is_interval, is_tlink}
 use Rattle.tml_refs.proofs.Lists.{all_paired, few}
 use Rattle.tml_refs.proofs.Locating.{distinct_names, with_content}
 
 -- ---- limits
 
-pub few_intervals : (all : List PlainTyped) → NoneBreaks (Breaks all) all → count_by is_interval all ≤ max_intervals
+pub few_intervals : (all : List PlainTyped) → NoneBreaks (BreaksReferenceRule all) all → count_by is_interval all ≤ max_intervals
 few_intervals all sound = few is_interval max_intervals all (λ before after tag e p n. sound before after tag TooManyIntervals e (and_from (is_interval tag) (count_by is_interval before == max_intervals) p (eq-eqb (count_by is_interval before) max_intervals n)))
 
-few_links : (all : List PlainTyped) → NoneBreaks (Breaks all) all → count_by is_tlink all ≤ max_links
+few_links : (all : List PlainTyped) → NoneBreaks (BreaksReferenceRule all) all → count_by is_tlink all ≤ max_links
 few_links all sound = few is_tlink max_links all (λ before after tag e p n. sound before after tag TooManyLinks e (and_from (is_tlink tag) (count_by is_tlink before == max_links) p (eq-eqb (count_by is_tlink before) max_links n)))
 
 interval_counted : (tag : PlainTyped) (ns : List PlainInterval) → length (cons_option (interval_of tag) ns) ≡ cond (is_interval tag) (1 + length ns) (length ns)

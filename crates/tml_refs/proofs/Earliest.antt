@@ -14,7 +14,7 @@ use Rattle.tml_types.specs.Places.{HaveRisingPlaces}
 use Rattle.tml_refs.specs.declared.resolving.RefFault.{RefFault}
 use Rattle.tml_refs.specs.declared.resolving.RefFault.TheVariants as faults
 use Rattle.tml_refs.specs.Firsts.{IsEarliest, IsFirstPlace, StandsAt, bound, nowhere}
-use Rattle.tml_refs.specs.Rules.{Breaks, HasReferenceFault}
+use Rattle.tml_refs.specs.Rules.{BreaksReferenceRule, HasReferenceFault}
 use Rattle.tml_refs.specs.Taking.{past}
 use Rattle.tml_refs.proofs.Placing.{begins_before, place_small}
 
@@ -84,9 +84,9 @@ module _ (p : PlainTyped → Bool) (most : ℕ) where
 
 module _ (all before : List PlainTyped) (tag : PlainTyped) where
   -- only four rules are broken
-  at_least : (n : ℕ) → (Breaks all kinds.DuplicateId before tag → n ≤ 14) → (Breaks all kinds.UnknownReference before tag → n ≤ 15) → (Breaks all kinds.TooManyIntervals before tag → n ≤ 16)
-      → (Breaks all kinds.TooManyLinks before tag → n ≤ 17) → (other : FaultKind) → Breaks all other before tag → n ≤ number_of other
-  at_least n duplicate unknown intervals links other = elim other as (λ o. Breaks all o before tag → n ≤ number_of o) [
+  at_least : (n : ℕ) → (BreaksReferenceRule all kinds.DuplicateId before tag → n ≤ 14) → (BreaksReferenceRule all kinds.UnknownReference before tag → n ≤ 15) → (BreaksReferenceRule all kinds.TooManyIntervals before tag → n ≤ 16)
+      → (BreaksReferenceRule all kinds.TooManyLinks before tag → n ≤ 17) → (other : FaultKind) → BreaksReferenceRule all other before tag → n ≤ number_of other
+  at_least n duplicate unknown intervals links other = elim other as (λ o. BreaksReferenceRule all o before tag → n ≤ number_of o) [
     | kinds.DuplicateId ↦ duplicate
     | kinds.UnknownReference ↦ unknown
     | kinds.TooManyIntervals ↦ intervals
@@ -94,9 +94,9 @@ module _ (all before : List PlainTyped) (tag : PlainTyped) where
     | _ ↦ λ b. absurd cc
   ]
 
-  none_of : (Breaks all kinds.DuplicateId before tag → ⊥) → (Breaks all kinds.UnknownReference before tag → ⊥) → (Breaks all kinds.TooManyIntervals before tag → ⊥) → (Breaks all kinds.TooManyLinks before tag → ⊥)
-      → (other : FaultKind) → Breaks all other before tag → ⊥
-  none_of duplicate unknown intervals links other = elim other as (λ o. Breaks all o before tag → ⊥) [
+  none_of : (BreaksReferenceRule all kinds.DuplicateId before tag → ⊥) → (BreaksReferenceRule all kinds.UnknownReference before tag → ⊥) → (BreaksReferenceRule all kinds.TooManyIntervals before tag → ⊥) → (BreaksReferenceRule all kinds.TooManyLinks before tag → ⊥)
+      → (other : FaultKind) → BreaksReferenceRule all other before tag → ⊥
+  none_of duplicate unknown intervals links other = elim other as (λ o. BreaksReferenceRule all o before tag → ⊥) [
     | kinds.DuplicateId ↦ duplicate
     | kinds.UnknownReference ↦ unknown
     | kinds.TooManyIntervals ↦ intervals
@@ -104,11 +104,11 @@ module _ (all before : List PlainTyped) (tag : PlainTyped) where
     | _ ↦ λ b. absurd cc
   ]
 
-module _ {all : List PlainTyped} (placed : HaveRisingPlaces all) {repeat unknown intervals links : ℕ} (repeats : IsFirstPlace (Breaks all kinds.DuplicateId) all repeat) (unknowns : IsFirstPlace (Breaks all kinds.UnknownReference) all unknown)
-    (too_many : IsFirstPlace (Breaks [] kinds.TooManyIntervals) all intervals) (too_many_links : IsFirstPlace (Breaks [] kinds.TooManyLinks) all links) where
+module _ {all : List PlainTyped} (placed : HaveRisingPlaces all) {repeat unknown intervals links : ℕ} (repeats : IsFirstPlace (BreaksReferenceRule all kinds.DuplicateId) all repeat) (unknowns : IsFirstPlace (BreaksReferenceRule all kinds.UnknownReference) all unknown)
+    (too_many : IsFirstPlace (BreaksReferenceRule [] kinds.TooManyIntervals) all intervals) (too_many_links : IsFirstPlace (BreaksReferenceRule [] kinds.TooManyLinks) all links) where
   -- before all four places no rule is broken
   none_below : (place : ℕ) → place ≤ repeat → place ≤ unknown → place ≤ intervals → place ≤ links → (before after : List PlainTyped) (tag : PlainTyped) → all ≡ before ++ tag ∷ after → tag.place < place
-      → (rule : FaultKind) → Breaks all rule before tag → ⊥
+      → (rule : FaultKind) → BreaksReferenceRule all rule before tag → ⊥
   none_below place a b c d before after tag whole below =
       none_of all before tag
       (repeats.none before after tag whole (omega (arith, a, below)))
@@ -116,12 +116,12 @@ module _ {all : List PlainTyped} (placed : HaveRisingPlaces all) {repeat unknown
       (too_many.none before after tag whole (omega (arith, c, below)))
       (too_many_links.none before after tag whole (omega (arith, d, below)))
 
-  sound_before : (place : ℕ) → place ≤ repeat → place ≤ unknown → place ≤ intervals → place ≤ links → (before after : List PlainTyped) (tag : PlainTyped) → all ≡ before ++ tag ∷ after → tag.place ≡ place → NoneBreaks (Breaks all) before
+  sound_before : (place : ℕ) → place ≤ repeat → place ≤ unknown → place ≤ intervals → place ≤ links → (before after : List PlainTyped) (tag : PlainTyped) → all ≡ before ++ tag ∷ after → tag.place ≡ place → NoneBreaks (BreaksReferenceRule all) before
   sound_before place a b c d before after tag whole is = λ first rest t rule cut.
       let longer : all ≡ (first ++ t ∷ rest) ++ tag ∷ after = whole ∙ ap (λ (ts : List PlainTyped). ts ++ tag ∷ after) cut in
       none_below place a b c d first (rest ++ tag ∷ after) t (longer ∙ append_assoc first (t ∷ rest) (tag ∷ after)) (omega (arith, is, begins_before all placed first rest after t tag longer)) rule
 
-  pub none_at_all : IsEarliest repeat unknown intervals links None → NoneBreaks (Breaks all) all
+  pub none_at_all : IsEarliest repeat unknown intervals links None → NoneBreaks (BreaksReferenceRule all) all
   none_at_all h = λ before after tag rule whole. none_below nowhere h.0 h.1 h.2 h.3 before after tag whole (place_small all placed before after tag whole) rule
 
   -- at the earliest place stands the first fault

@@ -3,7 +3,7 @@ use Rattle.std.proofs.Common.{◌≡◌, ◌<◌, ℕ, false, min, List, [], ◌
 use Rattle.std.specs.List.{AllZip, filter}
 use Rattle.faults.specs.First.{NoneBreaks}
 use Rattle.tml_types.specs.Content.{PlainTyped}
-use Rattle.tml_refs.specs.declared.asked.Asked.{Asked}
+use Rattle.tml_refs.specs.declared.asked.AskedReference.{AskedReference}
 use Rattle.tml_refs.specs.declared.document.DocLink.{DocLink}
 use Rattle.tml_refs.specs.declared.links.NamedLink.{NamedLink}
 use Rattle.tml_refs.specs.declared.name_index.Entry.{Entry}
@@ -14,8 +14,8 @@ use Rattle.tml_refs.specs.Documents.{IsLinkOf, PlainDocument, PlainInterval, Res
 use Rattle.tml_refs.specs.Firsts.{IsEarliest, bound, nowhere}
 use Rattle.tml_refs.specs.Linking.{IsLinked, IsLooseAt, IsNamedLink, is_loose}
 use Rattle.tml_refs.specs.NameIndex.{AreEntriesOf, IsFirstRepeat, IsIndexOf, IsIndexedDocument, is_unlisted}
-use Rattle.tml_refs.specs.Rules.{Breaks, HasReferenceFault, is_tlink}
-use Rattle.tml_refs.specs.Taking.{HasTaken}
+use Rattle.tml_refs.specs.Rules.{BreaksReferenceRule, HasReferenceFault, is_tlink}
+use Rattle.tml_refs.specs.Taking.{HasTakenTags}
 use Rattle.tml_refs.specs.View.{document_of, plain_interval}
 use Rattle.tml_refs.proofs.Documents.{count_intervals, few_intervals, resolved_document}
 use Rattle.tml_refs.proofs.Earliest.{earliest_fault, none_at_all}
@@ -34,21 +34,21 @@ zip_through R S T f (x ∷ xs) (y ∷ ys) [] h k = absurd k
 zip_through R S T f (x ∷ xs) (y ∷ ys) (z ∷ zs) h k = (f x y z h.0 k.0, zip_through R S T f xs ys zs h.1 k.1)
 
 -- What was found of the names, the references and the links.
-pub record HasFound (names : List Entry) (asked : List Asked) (links : List NamedLink) (repeat unlisted loose : ℕ) : Type 0 where
+pub record HasFound (names : List Entry) (asked : List AskedReference) (links : List NamedLink) (repeat unlisted loose : ℕ) : Type 0 where
   pub repeats : IsFirstRepeat names nowhere repeat
-  pub before : All (λ (a : Asked). a.place < unlisted → is_unlisted names (asked_reference a) ≡ false) asked
+  pub before : All (λ (a : AskedReference). a.place < unlisted → is_unlisted names (asked_reference a) ≡ false) asked
   pub here : unlisted < nowhere → IsUnlistedAt names asked unlisted
   pub before_loose : All (λ (n : NamedLink). n.place < loose → is_loose names n ≡ false) links
   pub here_loose : loose < nowhere → IsLooseAt names links loose
 
-module _ {tags : List PlainTyped} {r : Resolver} (taken : HasTaken tags r) (names : List Entry) (known : AreEntriesOf tags names) (repeat unlisted loose unknown : ℕ) (found : HasFound names r.asked r.links repeat unlisted loose) (e : unknown ≡ min unlisted loose) where
+module _ {tags : List PlainTyped} {r : Resolver} (taken : HasTakenTags tags r) (names : List Entry) (known : AreEntriesOf tags names) (repeat unlisted loose unknown : ℕ) (found : HasFound names r.asked r.links repeat unlisted loose) (e : unknown ≡ min unlisted loose) where
   pub fault_is : (fault : RefFault) → IsEarliest repeat unknown (bound r.past_intervals) (bound r.past_links) (Some fault) → HasReferenceFault tags fault
   fault_is fault h =
       earliest_fault taken.placed (first_taken tags taken.placed names known repeat found.repeats)
       (first_unknown tags names known r.asked taken.asked r.links taken.links unlisted loose unknown e found.before found.here found.before_loose found.here_loose) taken.past_intervals taken.past_links fault h
 
   module _ (none : IsEarliest repeat unknown (bound r.past_intervals) (bound r.past_links) None) where
-    sound : NoneBreaks (Breaks tags) tags
+    sound : NoneBreaks (BreaksReferenceRule tags) tags
     sound =
         none_at_all taken.placed (first_taken tags taken.placed names known repeat found.repeats)
         (first_unknown tags names known r.asked taken.asked r.links taken.links unlisted loose unknown e found.before found.here found.before_loose found.here_loose) taken.past_intervals taken.past_links none

@@ -11,13 +11,13 @@ use Rattle.tml_types.specs.declared.typed.TagKind.{TagKind}
 use Rattle.tml_types.specs.declared.typed.TagKind.TheVariants as kind
 use Rattle.tml_types.specs.Content as content
 use Rattle.tml_types.specs.Content.{Content, PlainTyped, Reference}
-use Rattle.tml_types.specs.References.{id_of, is_of_kind, reference, references_of}
+use Rattle.tml_types.specs.References.{id_of, is_of_kind, reference}
 use Rattle.tml_types.specs.References as references
 use Rattle.tml_refs.specs.declared.document.DocLink.{DocLink}
 use Rattle.tml_refs.specs.declared.name_index.Entry.{Entry}
 use Rattle.tml_refs.specs.Documents.{IsLinkOf, PlainInterval, RefersTo, instance, interval_of, intervals_of, kind_of, interval_name, time}
 use Rattle.tml_refs.specs.declared.links.NamedLink.{NamedLink}
-use Rattle.tml_types.specs.View.{end_of}
+use Rattle.tml_types.specs.View.{reference_at_end}
 use Rattle.tml_refs.specs.Linking.{IsLinked, IsNamedLink}
 use Rattle.tml_refs.specs.NameIndex.{AreEntriesOf, HasNumber, HasIntervalNumber, IsEntryIn, IsEntryOf, IsIndexOf, IsOfIntervals, entry_name, is_for, is_listed, is_unlisted, rank_of}
 use Rattle.tml_refs.specs.Rules.{has_id, is_target, is_unknown}
@@ -124,6 +124,6 @@ module _ (all : List PlainTyped) (names : List Entry) (known : AreEntriesOf all 
   -- a link by names is a link of the document
   pub link_named : (tag : PlainTyped) (n : NamedLink) (link : DocLink) → IsNamedLink tag n → IsLinked names n link → IsLinkOf (intervals_of all) tag link
   link_named tag n link = elim tag.content as (λ c. IsNamedLink (with_content tag c) n → IsLinked names n link → IsLinkOf (intervals_of all) (with_content tag c) link) [
-    | content.tlink l ↦ λ is h. (subst (λ (r : Reference). RefersTo (intervals_of all) r link.a) is.1.0 (finds_refers (end_of n.left) link.a h.0), h.1 ∙ is.1.1, subst (λ (r : Reference). RefersTo (intervals_of all) r link.b) is.1.2 (finds_refers (end_of n.right) link.b h.2))
+    | content.tlink l ↦ λ is h. (subst (λ (r : Reference). RefersTo (intervals_of all) r link.a) is.1.0 (finds_refers (reference_at_end n.left) link.a h.0), h.1 ∙ is.1.1, subst (λ (r : Reference). RefersTo (intervals_of all) r link.b) is.1.2 (finds_refers (reference_at_end n.right) link.b h.2))
     | _ ↦ λ is h. absurd is.1
   ]

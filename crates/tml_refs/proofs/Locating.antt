@@ -11,7 +11,7 @@ use Rattle.tml_types.specs.Content.{Content, PlainTyped}
 use Rattle.tml_types.specs.References as references
 use Rattle.tml_types.specs.References.{id_of}
 use Rattle.tml_refs.specs.Documents.{IsNamed, PlainInterval, interval_of, intervals_of, kind_of, interval_name}
-use Rattle.tml_refs.specs.Rules.{Breaks, has_id}
+use Rattle.tml_refs.specs.Rules.{BreaksReferenceRule, has_id}
 use Rattle.tml_refs.proofs.Lists.{any_inside}
 
 -- the tag of an interval
@@ -79,14 +79,14 @@ its_own_id tag name h = id_by name (id_of tag.content) h
 -- ---- names
 
 -- a tag that has the identifier of a tag before it breaks the rule of identifiers
-pub repeats_id : (all before : List PlainTyped) (tag : PlainTyped) (name : List ℕ) → id_of tag.content ≡ Some name → list_any (has_id name) before ≡ true → Breaks all DuplicateId before tag
+pub repeats_id : (all before : List PlainTyped) (tag : PlainTyped) (name : List ℕ) → id_of tag.content ≡ Some name → list_any (has_id name) before ≡ true → BreaksReferenceRule all DuplicateId before tag
 repeats_id all before tag name e h = ap (λ (o : Option (List ℕ)). elim o [ None ↦ false | Some id ↦ list_any (has_id id) before ]) e ∙ h
 
-twice : (all before mid after : List PlainTyped) (tag other : PlainTyped) (name : List ℕ) → NoneBreaks (Breaks all) all → all ≡ (before ++ tag ∷ mid) ++ other ∷ after → id_of tag.content ≡ Some name → id_of other.content ≡ Some name → ⊥
+twice : (all before mid after : List PlainTyped) (tag other : PlainTyped) (name : List ℕ) → NoneBreaks (BreaksReferenceRule all) all → all ≡ (before ++ tag ∷ mid) ++ other ∷ after → id_of tag.content ≡ Some name → id_of other.content ≡ Some name → ⊥
 twice all before mid after tag other name sound e t o =
     sound (before ++ tag ∷ mid) after other DuplicateId e (repeats_id all (before ++ tag ∷ mid) other name o (any_inside (has_id name) before mid tag (has_own_id tag name t)))
 
-one_place : (all : List PlainTyped) (name : List ℕ) (i j : ℕ) (v w : PlainInterval) → NoneBreaks (Breaks all) all → Located all i v → Located all j w → interval_name v ≡ name → interval_name w ≡ name → i ≡ j
+one_place : (all : List PlainTyped) (name : List ℕ) (i j : ℕ) (v w : PlainInterval) → NoneBreaks (BreaksReferenceRule all) all → Located all i v → Located all j w → interval_name v ≡ name → interval_name w ≡ name → i ≡ j
 one_place all name i j v w sound l m e f =
     let own = its_id l.tag v l.its ∙ ap (λ (n : List ℕ). Some n) e in
     let its = its_id m.tag w m.its ∙ ap (λ (n : List ℕ). Some n) f in
@@ -96,5 +96,5 @@ one_place all name i j v w sound l m e f =
       | inr (inr k) ↦ absurd (twice all m.before k.0 l.after m.tag l.tag name sound (l.whole ∙ ap (λ (ts : List PlainTyped). ts ++ l.tag ∷ l.after) k.1) its own)
     ]
 
-pub distinct_names : (all : List PlainTyped) (name : List ℕ) (i j : ℕ) → NoneBreaks (Breaks all) all → IsNamed (intervals_of all) name i → IsNamed (intervals_of all) name j → i ≡ j
+pub distinct_names : (all : List PlainTyped) (name : List ℕ) (i j : ℕ) → NoneBreaks (BreaksReferenceRule all) all → IsNamed (intervals_of all) name i → IsNamed (intervals_of all) name j → i ≡ j
 distinct_names all name i j sound h k = one_place all name i j h.0 k.0 sound (located all i h.0 h.1) (located all j k.0 k.1) h.2 k.2

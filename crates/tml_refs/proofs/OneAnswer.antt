@@ -7,15 +7,15 @@ use Rattle.faults.specs.Kinds.{number_of}
 use Rattle.faults.proofs.First.{none_or_fault, one_fault}
 use Rattle.faults.proofs.Numbered.{kinds_are_numbered}
 use Rattle.tml_types.specs.Content as content
-use Rattle.tml_types.specs.Content.{Content, PlainTyped, Reference}
+use Rattle.tml_types.specs.Content.{PlainTyped, Reference}
 use Rattle.tml_types.specs.Places.{place_of}
 use Rattle.tml_refs.specs.declared.document.DocLink.{DocLink}
-use Rattle.tml_refs.specs.Answers.{OneAnswers}
+use Rattle.tml_refs.specs.Answers.{OneDocumentAnswers}
 use Rattle.tml_refs.specs.Documents.{IsLinkOf, PlainDocument, PlainInterval, RefersTo, Resolved, intervals_of}
-use Rattle.tml_refs.specs.Rules.{Breaks, is_tlink}
+use Rattle.tml_refs.specs.Rules.{BreaksReferenceRule, is_tlink}
 use Rattle.tml_refs.proofs.Locating.{distinct_names}
 
-module _ (all : List PlainTyped) (sound : NoneBreaks (Breaks all) all) where
+module _ (all : List PlainTyped) (sound : NoneBreaks (BreaksReferenceRule all) all) where
   one_end : (r : Reference) (i j : ℕ) → RefersTo (intervals_of all) r i → RefersTo (intervals_of all) r j → i ≡ j
   one_end r i j h k = distinct_names all r.name i j sound (h.interval, h.at, h.name) (k.interval, k.at, k.name)
 
@@ -39,9 +39,9 @@ one_document all doc other r s =
     let links = zip_one (IsLinkOf (intervals_of all)) (one_link all r.sound) (filter is_tlink all) doc.links other.links (links_in all doc r) (links_in all other s) in
     λ i. record { counts = counts i; intervals = intervals i; links = links i }
 
-pub one_answer : OneAnswers
+pub one_answer : OneDocumentAnswers
 one_answer = λ all. record {
-  document_or_fault = λ doc place rule d f. none_or_fault (Breaks all) number_of place_of all place rule d.sound f;
-  one_fault = λ place other rule another. one_fault (Breaks all) number_of place_of kinds_are_numbered all place other rule another;
+  document_or_fault = λ doc place rule d f. none_or_fault (BreaksReferenceRule all) number_of place_of all place rule d.sound f;
+  one_fault = λ place other rule another. one_fault (BreaksReferenceRule all) number_of place_of kinds_are_numbered all place other rule another;
   one_document = one_document all;
 }

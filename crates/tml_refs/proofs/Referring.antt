@@ -1,24 +1,25 @@
 -- The references of tags, and the first that is to no tag.
-use Rattle.std.proofs.Common.{◌≡◌, ◌<◌, ◌||◌, ℕ, Bool, true, false, min, List, [], ◌∷◌, ◌++◌, map, length, get_or, refl, sym, ap, subst, ◌∙◌, append_assoc, inl, inr, arith, All, Result, Ok, Err, OnOk, ◌⊎◌}
+use Rattle.std.proofs.Common.{◌≡◌, ◌<◌, ◌||◌, ℕ, Bool, true, false, min, List, [], ◌∷◌, ◌++◌, map, length, get_or, refl, sym, ap, subst, ◌∙◌, append_assoc, inl, inr, arith, All}
 use mathlib.Core.Bool.{true≢false}
 use Rattle.std.specs.List.{AllZip, Contains, filter, list_any}
 use Rattle.std.proofs.lemmas.List.{get_or-map, get_or_default, length-map, map-append}
 use Rattle.std.proofs.lemmas.List.Elements.{All-append, All-cons, All-contains, All-head, All-nil, All-tail, Contains-append_left, Contains-append_right}
 use Rattle.std.proofs.lemmas.List.Folds.{list_any_at}
+use Rattle.std.proofs.lemmas.Bool.{or_cases}
 use Rattle.faults.specs.declared.kind.FaultKind.TheVariants.{UnknownReference}
 use Rattle.named.proofs.Cuts.{last_or_before, none_cut}
 use Rattle.tml_types.specs.Content as content
 use Rattle.tml_types.specs.Content.{Content, PlainTyped, Reference}
 use Rattle.tml_types.specs.declared.typed.TagKind.TheVariants as kind
 use Rattle.tml_types.specs.References.{is_of_kind, references_of}
-use Rattle.tml_refs.specs.declared.asked.Asked.{Asked}
+use Rattle.tml_refs.specs.declared.asked.AskedReference.{AskedReference}
 use Rattle.tml_refs.specs.declared.links.NamedLink.{NamedLink}
 use Rattle.tml_refs.specs.declared.name_index.Entry.{Entry}
 use Rattle.tml_refs.specs.Asking.{AreAsked, Asks, HasAsked, IsAskedAt, IsAskedIn, IsUnlistedAt, asked_reference}
 use Rattle.tml_refs.specs.Firsts.{IsFirstPlace, StandsAt, nowhere}
 use Rattle.tml_refs.specs.Linking.{IsLooseAt, IsNamedLink, is_loose}
 use Rattle.tml_refs.specs.NameIndex.{AreEntriesOf, is_either_unlisted, is_unlisted, other_references}
-use Rattle.tml_refs.specs.Rules.{Breaks, is_tlink, is_unknown}
+use Rattle.tml_refs.specs.Rules.{BreaksReferenceRule, is_tlink, is_unknown}
 use Rattle.tml_refs.proofs.Earliest.{earlier_here}
 use Rattle.tml_refs.proofs.Failing.{IsPartner, zip_each, zip_only}
 use Rattle.tml_refs.proofs.Knowing.{unknown_by_names}
@@ -28,30 +29,25 @@ use Rattle.tml_refs.proofs.Searches.{inside}
 
 -- ---- appending references
 
--- what follows of a result that is no error
-pub on_ok : {T E P Q : Type 0} (r : Result T E) → (P → Q) → OnOk r P → OnOk r Q
-on_ok (Ok x) f h = f h
-on_ok (Err x) f h = tt
-
-pub asks_both : (place : ℕ) (rs ss : List Reference) (a b c : List Asked) → Asks place rs a b → Asks place ss b c → Asks place (rs ++ ss) a c
+pub asks_both : (place : ℕ) (rs ss : List Reference) (a b c : List AskedReference) → Asks place rs a b → Asks place ss b c → Asks place (rs ++ ss) a c
 asks_both place rs ss a b c h k = (
   h.0 ++ k.0,
   map-append asked_reference h.0 k.0 ∙ (λ i. h.1 i ++ k.1 i),
   All-append (IsAskedAt place) h.0 k.0 h.2 k.2,
-  k.3 ∙ ap (λ (xs : List Asked). xs ++ k.0) h.3 ∙ append_assoc a h.0 k.0,
+  k.3 ∙ ap (λ (xs : List AskedReference). xs ++ k.0) h.3 ∙ append_assoc a h.0 k.0,
 )
 
 pub none_asked : AreAsked [] []
 none_asked = record { each = λ before after tag whole. absurd (none_cut before after tag whole); only = All-nil (IsAskedIn []) }
 
-own_by : (whole more : List Asked) (place : ℕ) → ((a : Asked) → Contains more a → Contains whole a) → All (IsAskedAt place) more → All (HasAsked whole place) (map asked_reference more)
+own_by : (whole more : List AskedReference) (place : ℕ) → ((a : AskedReference) → Contains more a → Contains whole a) → All (IsAskedAt place) more → All (HasAsked whole place) (map asked_reference more)
 own_by whole [] place within h = All-nil (HasAsked whole place)
 own_by whole (a ∷ more) place within h =
     All-cons (HasAsked whole place) (asked_reference a) (map asked_reference more) (a, within a (0, omega arith, refl), All-head (IsAskedAt place) a more h, refl)
     (own_by whole more place (λ b c. within b (Contains-append_right (a ∷ []) more b c)) (All-tail (IsAskedAt place) a more h))
 
 -- the references of one tag more
-pub asked_more : (tags : List PlainTyped) (tag : PlainTyped) (old new : List Asked) → AreAsked tags old → Asks tag.place (other_references tag.content) old new → AreAsked (tags ++ tag ∷ []) new
+pub asked_more : (tags : List PlainTyped) (tag : PlainTyped) (old new : List AskedReference) → AreAsked tags old → Asks tag.place (other_references tag.content) old new → AreAsked (tags ++ tag ∷ []) new
 asked_more tags tag old new asked (more, is, at, whole) =
     subst (AreAsked (tags ++ tag ∷ [])) (sym whole)
     (record {
@@ -108,33 +104,29 @@ or_true : (a : Bool) → (a || true) ≡ true
 or_true true = refl
 or_true false = refl
 
-or_cases : (a b : Bool) → (a || b) ≡ true → (a ≡ true) ⊎ (b ≡ true)
-or_cases true b h = inl refl
-or_cases false b h = inr h
-
 -- ---- the first unknown reference
 
-module _ (all : List PlainTyped) (names : List Entry) (known : AreEntriesOf all names) (asked : List Asked) (are : AreAsked all asked) (links : List NamedLink) (named : AllZip IsNamedLink (filter is_tlink all) links) where
+module _ (all : List PlainTyped) (names : List Entry) (known : AreEntriesOf all names) (asked : List AskedReference) (are : AreAsked all asked) (links : List NamedLink) (named : AllZip IsNamedLink (filter is_tlink all) links) where
   broken_is : (tag : PlainTyped) → (list_any (is_unlisted names) (other_references tag.content) || ends_unlisted names tag.content) ≡ list_any (is_unknown all) (references_of tag.content)
   broken_is tag = sym (split names tag.content) ∙ unknown_by_names all names known (references_of tag.content)
 
   pub first_unknown : (unlisted loose first : ℕ) → first ≡ min unlisted loose
-      → All (λ (a : Asked). a.place < unlisted → is_unlisted names (asked_reference a) ≡ false) asked → (unlisted < nowhere → IsUnlistedAt names asked unlisted)
+      → All (λ (a : AskedReference). a.place < unlisted → is_unlisted names (asked_reference a) ≡ false) asked → (unlisted < nowhere → IsUnlistedAt names asked unlisted)
       → All (λ (n : NamedLink). n.place < loose → is_loose names n ≡ false) links → (loose < nowhere → IsLooseAt names links loose)
-      → IsFirstPlace (Breaks all UnknownReference) all first
+      → IsFirstPlace (BreaksReferenceRule all UnknownReference) all first
   first_unknown unlisted loose first e before here before_loose here_loose = record {
     none = λ front after tag whole below broken. elim (or_cases _ _ (broken_is tag ∙ broken)) [
       | inl other ↦
           let p = passes_at (is_unlisted names) (other_references tag.content) other in
           let a = All-contains (HasAsked asked tag.place) (other_references tag.content) p.element (are.each front after tag whole) (inside (other_references tag.content) p.before p.after p.element p.whole) in
-          let good = All-contains (λ (b : Asked). b.place < unlisted → is_unlisted names (asked_reference b) ≡ false) asked a.0 before a.1 (omega (arith, e, below, a.2)) in
+          let good = All-contains (λ (b : AskedReference). b.place < unlisted → is_unlisted names (asked_reference b) ≡ false) asked a.0 before a.1 (omega (arith, e, below, a.2)) in
           absurd (true≢false (sym p.passes ∙ ap (is_unlisted names) (sym a.3) ∙ good))
       | inr ends ↦
           let n = zip_each IsNamedLink is_tlink all front after tag links whole (ends_tlink names tag.content ends) named in
           let good = All-contains (λ (m : NamedLink). m.place < loose → is_loose names m ≡ false) links n.0 before_loose n.1 (omega (arith, e, below, n.2.0)) in
           absurd (true≢false (sym ends ∙ sym (loose_is names tag n.0 n.2) ∙ good))
     ];
-    here = earlier_here (StandsAt (Breaks all UnknownReference) all) unlisted loose first e
+    here = earlier_here (StandsAt (BreaksReferenceRule all UnknownReference) all) unlisted loose first e
         (λ small.
         let a = here small in
         let at = All-contains (IsAskedIn all) asked a.0 are.only a.1 in

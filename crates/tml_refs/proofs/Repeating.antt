@@ -10,7 +10,7 @@ use Rattle.tml_types.specs.References.{id_of}
 use Rattle.tml_refs.specs.declared.name_index.Entry.{Entry}
 use Rattle.tml_refs.specs.Firsts.{IsFirstPlace, StandsAt, nowhere}
 use Rattle.tml_refs.specs.NameIndex.{AreEntriesOf, IsEntryIn, IsEntryOf, IsFirstRepeat, Repeats, entry_name}
-use Rattle.tml_refs.specs.Rules.{Breaks, has_id}
+use Rattle.tml_refs.specs.Rules.{BreaksReferenceRule, has_id}
 use Rattle.tml_refs.proofs.Knowing.{some_from}
 use Rattle.tml_refs.proofs.Lists.{any_inside, passes_at}
 use Rattle.tml_refs.proofs.Placing.{begins_before}
@@ -23,7 +23,7 @@ taken_by before None h = absurd cc
 taken_by before (Some id) h = (id, refl, h)
 
 module _ (all : List PlainTyped) (placed : HaveRisingPlaces all) (names : List Entry) (known : AreEntriesOf all names) where
-  repeated : (before after : List PlainTyped) (tag : PlainTyped) → all ≡ before ++ tag ∷ after → Breaks all DuplicateId before tag → Repeats names tag.place
+  repeated : (before after : List PlainTyped) (tag : PlainTyped) → all ≡ before ++ tag ∷ after → BreaksReferenceRule all DuplicateId before tag → Repeats names tag.place
   repeated before after tag whole broken =
       let taken = taken_by before (id_of tag.content) broken in
       let p = passes_at (has_id taken.0) before taken.2 in
@@ -34,13 +34,13 @@ module _ (all : List PlainTyped) (placed : HaveRisingPlaces all) (names : List E
       let one_name = same_Some (entry_name e.0) (entry_name f.0) (sym e.2.name ∙ its ∙ sym taken.1 ∙ f.2.name) in
       (e.0, f.0, e.1, f.1, one_name, omega (arith, e.2.place, f.2.place, begins_before all placed p.before p.after after p.element tag cut), f.2.place)
 
-  taken_at : (before after mid rest : List PlainTyped) (tag other : PlainTyped) (e f : Entry) → all ≡ before ++ tag ∷ after → before ≡ mid ++ other ∷ rest → IsEntryOf mid other e → id_of tag.content ≡ Some (entry_name f) → entry_name e ≡ entry_name f → Breaks all DuplicateId before tag
+  taken_at : (before after mid rest : List PlainTyped) (tag other : PlainTyped) (e f : Entry) → all ≡ before ++ tag ∷ after → before ≡ mid ++ other ∷ rest → IsEntryOf mid other e → id_of tag.content ≡ Some (entry_name f) → entry_name e ≡ entry_name f → BreaksReferenceRule all DuplicateId before tag
   taken_at before after mid rest tag other e f whole cut its id n =
       repeats_id all before tag (entry_name f) id
       (ap (list_any (has_id (entry_name f))) cut ∙ any_inside (has_id (entry_name f)) mid rest other (has_own_id other (entry_name f) (its.name ∙ ap (λ (m : List ℕ). Some m) n)))
 
   -- at a place at which a name is repeated stands a tag whose identifier is taken
-  taken_here : (place : ℕ) → Repeats names place → StandsAt (Breaks all DuplicateId) all place
+  taken_here : (place : ℕ) → Repeats names place → StandsAt (BreaksReferenceRule all DuplicateId) all place
   taken_here place r =
       let e = r.0 in
       let f = r.1 in
@@ -60,7 +60,7 @@ module _ (all : List PlainTyped) (placed : HaveRisingPlaces all) (names : List E
       }
 
   -- the first place at which a name is repeated is that at which the rule of identifiers is broken first
-  pub first_taken : (first : ℕ) → IsFirstRepeat names nowhere first → IsFirstPlace (Breaks all DuplicateId) all first
+  pub first_taken : (first : ℕ) → IsFirstRepeat names nowhere first → IsFirstPlace (BreaksReferenceRule all DuplicateId) all first
   first_taken first h = record {
     none = λ before after tag whole below broken. absurd (omega (arith, h.none_before tag.place (repeated before after tag whole broken), below));
     here = λ some. taken_here first (h.here some);

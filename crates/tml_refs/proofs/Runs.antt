@@ -8,7 +8,7 @@ use Rattle.std.proofs.lemmas.List.{get_or-take, get_or_default}
 use Rattle.std.proofs.lemmas.List.Elements.{All-contains, Contains-get_or}
 use Rattle.std.proofs.lemmas.List.Sorted.{ranks_by, sorted_far}
 use Rattle.tml_refs.specs.declared.name_index.Entry.{Entry}
-use Rattle.tml_refs.specs.NameIndex.{AreInOrder, HasHead, entry_name, head_of, key_of}
+use Rattle.tml_refs.specs.NameIndex.{AreEntriesInOrder, HasHead, entry_name, head_of, key_of}
 use Rattle.tml_refs.proofs.Orders.{equal_names, name_order, name_total, names_equal, names_not_less, neither_less}
 
 -- an element of a prefix stands below its end
@@ -18,7 +18,7 @@ place_in xs i x h =
     let inside : h.0 < i = omega (arith, length-take i xs) in
     (h.0, inside, omega (arith, length-take i xs), sym (get_or-take i xs h.0 x inside) ∙ h.2)
 
-module _ (entries : List Entry) (order : AreInOrder entries) where
+module _ (entries : List Entry) (order : AreEntriesInOrder entries) where
   by_names : IsSortedByKey key_of name_order entries
   by_names = λ k d low high. names_not_less (key_of (get_or entries (k + 1) d)) (key_of (get_or entries k d)) (order.sorted k d low high)
 

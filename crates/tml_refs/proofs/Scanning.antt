@@ -9,7 +9,7 @@ use Rattle.std.proofs.lemmas.List.{take_more, take_all, take-append-drop, get_or
 use Rattle.std.proofs.lemmas.List.Elements.{Contains-append_left, Contains-get_or, Contains-push, Contains-push_cases}
 use Rattle.std.proofs.lemmas.List.Sums.{sum_by-append, sum_by-cons}
 use Rattle.tml_refs.specs.declared.name_index.Entry.{Entry}
-use Rattle.tml_refs.specs.NameIndex.{AreInOrder, IsFirstRepeat, Repeats, entry_name, is_at}
+use Rattle.tml_refs.specs.NameIndex.{AreEntriesInOrder, IsFirstRepeat, Repeats, entry_name, is_at}
 use Rattle.tml_refs.proofs.Runs.{place_in, side_by_side}
 
 -- Of the first entries, this many: no name is repeated at a position before `first`, a name is repeated there, if it is no end, and `least` is the first position of the entries of this name.
@@ -31,7 +31,7 @@ count_at p [] i d h t = absurd (omega (arith, h))
 count_at p (y ∷ xs) zero d h t = one_more (p y) (count_by p xs) (count_by p (y ∷ xs)) t (sum_by-cons (λ (x : Entry). cond (p x) 1 0) y xs)
 count_at p (y ∷ xs) (suc i) d h t = omega (arith, count_at p xs i d (omega (arith, h)) t, sum_by-cons (λ (x : Entry). cond (p x) 1 0) y xs)
 
-module _ (entries : List Entry) (order : AreInOrder entries) where
+module _ (entries : List Entry) (order : AreEntriesInOrder entries) where
   -- an entry before another has another position
   apart_from : (i : ℕ) (e d : Entry) → i < length entries → Contains (take i entries) e → e.place ≡ (get_or entries i d).place → ⊥
   apart_from i e d below h same =

@@ -16,7 +16,7 @@ use Rattle.std.proofs.lemmas.Slice.Eq.{bytes_eq-Decides}
 use Rattle.tml_types.specs.Content.{Reference}
 use Rattle.tml_refs.specs.declared.name_index.Entry.{Entry}
 use Rattle.tml_refs.specs.declared.name_index.Key.{Key}
-use Rattle.tml_refs.specs.NameIndex.{AreInOrder, HasHead, HasNumber, IsKeyOf, entry_name, head_of, is_for, is_listed, key_of, key_order, rank_of}
+use Rattle.tml_refs.specs.NameIndex.{AreEntriesInOrder, HasHead, HasNumber, IsKeyOf, entry_name, head_of, is_for, is_listed, key_of, key_order, rank_of}
 use Rattle.tml_refs.proofs.Lists.{passes_at}
 use Rattle.tml_refs.proofs.Orders.{equal_keys, key_total, keys_equal}
 
@@ -35,7 +35,7 @@ for_both r e h =
 pub is_for_both : (r : Reference) (e : Entry) → e.key.rank ≡ rank_of r.asked → r.name ≡ entry_name e → is_for r e ≡ true
 is_for_both r e h k = and_from (e.key.rank == rank_of r.asked) (bytes_eq r.name (entry_name e)) (eq-eqb e.key.rank (rank_of r.asked) h) ((bytes_eq-Decides r.name (entry_name e)).1 k)
 
-module _ {entries slice : List Entry} {r : Reference} {key : Key} (same : slice ≡ entries) (order : AreInOrder entries) (is : IsKeyOf r key) where
+module _ {entries slice : List Entry} {r : Reference} {key : Key} (same : slice ≡ entries) (order : AreEntriesInOrder entries) (is : IsKeyOf r key) where
   -- an entry that was found is that of a tag that the reference asks for
   found : (at : ℕ) (d : Entry) → at < length slice → IsBinarySearchResult (entry_order key) slice (Ok at) → is_for r (get_or slice at d) ≡ true
   found at d below h =

@@ -17,7 +17,7 @@ use Rattle.tml_types.specs.Content as content
 use Rattle.tml_types.specs.Content.{Content, PlainTyped}
 use Rattle.tml_types.specs.Places.{HaveRisingPlaces, IsPlaceSmall}
 use Rattle.tml_types.specs.References.{id_of, is_of_kind, kind_of}
-use Rattle.tml_refs.specs.declared.asked.Asked.{Asked}
+use Rattle.tml_refs.specs.declared.asked.AskedReference.{AskedReference}
 use Rattle.tml_refs.specs.declared.document.Counts.{Counts}
 use Rattle.tml_refs.specs.declared.links.NamedLink.{NamedLink}
 use Rattle.tml_refs.specs.declared.name_index.Entry.{Entry}
@@ -28,8 +28,8 @@ use Rattle.tml_refs.specs.Documents.{PlainInterval, count_of, counts_of, interva
 use Rattle.tml_refs.specs.Firsts.{IsFirstPlace, bound, nowhere}
 use Rattle.tml_refs.specs.Linking.{IsNamedLink}
 use Rattle.tml_refs.specs.NameIndex.{AreEntriesOf, IsEntryIn, IsEntryOf, other_references}
-use Rattle.tml_refs.specs.Rules.{Breaks, is_interval, is_tlink}
-use Rattle.tml_refs.specs.Taking.{Adds, HasTaken}
+use Rattle.tml_refs.specs.Rules.{BreaksReferenceRule, is_interval, is_tlink}
+use Rattle.tml_refs.specs.Taking.{AddsTag, HasTakenTags}
 use Rattle.tml_refs.specs.View.{plain_interval}
 use Rattle.tml_refs.proofs.Documents.{count_intervals}
 use Rattle.tml_refs.proofs.Earliest.{past_more}
@@ -49,7 +49,7 @@ no_entries = record {
 none_first : (breaks : List PlainTyped → PlainTyped → Type 0) → IsFirstPlace breaks [] nowhere
 none_first breaks = record { none = λ before after tag whole below broken. none_cut before after tag whole; here = λ small. absurd (omega (arith, small)) }
 
-pub none_taken : (r : Resolver) → r.entries ≡ [] → r.asked ≡ [] → r.contents.counts ≡ counts_of [] → r.contents.intervals ≡ [] → r.contents.links ≡ [] → r.links ≡ [] → r.past_intervals ≡ None → r.past_links ≡ None → HasTaken [] r
+pub none_taken : (r : Resolver) → r.entries ≡ [] → r.asked ≡ [] → r.contents.counts ≡ counts_of [] → r.contents.intervals ≡ [] → r.contents.links ≡ [] → r.links ≡ [] → r.past_intervals ≡ None → r.past_links ≡ None → HasTakenTags [] r
 none_taken r entries asked counts intervals no_links links past_intervals past_links = record {
   placed = record { rising = tt; small = All-nil IsPlaceSmall; few = omega arith };
   entries = subst (AreEntriesOf []) (sym entries) no_entries;
@@ -58,8 +58,8 @@ none_taken r entries asked counts intervals no_links links past_intervals past_l
   intervals = λ few. ap (map plain_interval) intervals;
   no_links = no_links;
   links = subst (λ (ns : List NamedLink). AllZip IsNamedLink [] ns) (sym links) tt;
-  past_intervals = subst (λ (o : Option ℕ). IsFirstPlace (Breaks [] TooManyIntervals) [] (bound o)) (sym past_intervals) (none_first (Breaks [] TooManyIntervals));
-  past_links = subst (λ (o : Option ℕ). IsFirstPlace (Breaks [] TooManyLinks) [] (bound o)) (sym past_links) (none_first (Breaks [] TooManyLinks));
+  past_intervals = subst (λ (o : Option ℕ). IsFirstPlace (BreaksReferenceRule [] TooManyIntervals) [] (bound o)) (sym past_intervals) (none_first (BreaksReferenceRule [] TooManyIntervals));
+  past_links = subst (λ (o : Option ℕ). IsFirstPlace (BreaksReferenceRule [] TooManyLinks) [] (bound o)) (sym past_links) (none_first (BreaksReferenceRule [] TooManyLinks));
 }
 
 -- ---- counts
@@ -112,7 +112,7 @@ number_is tags counts e = ap (λ (c : Counts). c.instances + c.timex) e ∙ inte
 
 -- ---- one tag more
 
-module _ {tags : List PlainTyped} (t : PlainTyped) {old : Resolver} (taken : HasTaken tags old) (placed : HaveRisingPlaces (tags ++ t ∷ [])) where
+module _ {tags : List PlainTyped} (t : PlainTyped) {old : Resolver} (taken : HasTakenTags tags old) (placed : HaveRisingPlaces (tags ++ t ∷ [])) where
   -- its entry, where it has one
   pub with_entry : (number : ℕ) (e : Entry) (entries : List Entry) → number ≡ old.contents.counts.instances + old.contents.counts.timex → ((before : List PlainTyped) → number ≡ length (intervals_of before) → IsEntryOf before t e)
       → entries ≡ old.entries ++ e ∷ [] → AreEntriesOf (tags ++ t ∷ []) entries
@@ -122,8 +122,8 @@ module _ {tags : List PlainTyped} (t : PlainTyped) {old : Resolver} (taken : Has
   without_entry entries none is = subst (AreEntriesOf (tags ++ t ∷ [])) (sym is) (entries_same tags t old.entries taken.entries none)
 
   pub taken_more : (number : ℕ) → number ≡ old.contents.counts.instances + old.contents.counts.timex → (between : Resolver) → between ≡ record old { entries = between.entries } → AreEntriesOf (tags ++ t ∷ []) between.entries
-      → (asked : List Asked) → Asks t.place (other_references t.content) between.asked asked → (added : Resolver) → Adds (record between { asked = asked }) number t added
-      → (counts : Counts) → IsOneMore (kind_of t.content) added.contents.counts counts → HasTaken (tags ++ t ∷ []) (record added { contents = record added.contents { counts = counts } })
+      → (asked : List AskedReference) → Asks t.place (other_references t.content) between.asked asked → (added : Resolver) → AddsTag (record between { asked = asked }) number t added
+      → (counts : Counts) → IsOneMore (kind_of t.content) added.contents.counts counts → HasTakenTags (tags ++ t ∷ []) (record added { contents = record added.contents { counts = counts } })
   taken_more number n between same names asked asks added adds counts one =
       let all : intervals_of (tags ++ t ∷ []) ≡ intervals_of tags ++ option_to_list (interval_of t) = filter_map_more interval_of tags t in
       let before : number ≡ length (intervals_of tags) = n ∙ number_is tags old.contents.counts taken.counts in
@@ -142,11 +142,11 @@ module _ {tags : List PlainTyped} (t : PlainTyped) {old : Resolver} (taken : Has
         links = subst (λ (p : List PlainTyped × List NamedLink). AllZip IsNamedLink p.0 p.1) (λ i. (sym (filter-append is_tlink tags (t ∷ [])) i, sym (adds.links.2 ∙ ap (λ (r : Resolver). r.links ++ adds.links.0) same) i))
             (zip_append IsNamedLink (filter is_tlink tags) (filter is_tlink (t ∷ [])) old.links adds.links.0 taken.links adds.links.1);
         past_intervals = past_more is_interval max_intervals tags t between.past_intervals added.past_intervals number adds.past_intervals (before ∙ count_intervals tags)
-            (subst (λ (r : Resolver). IsFirstPlace (Breaks [] TooManyIntervals) tags (bound r.past_intervals)) (sym same) taken.past_intervals);
+            (subst (λ (r : Resolver). IsFirstPlace (BreaksReferenceRule [] TooManyIntervals) tags (bound r.past_intervals)) (sym same) taken.past_intervals);
         past_links = past_more is_tlink max_links tags t between.past_links added.past_links (length between.links) adds.past_links links_long
-            (subst (λ (r : Resolver). IsFirstPlace (Breaks [] TooManyLinks) tags (bound r.past_links)) (sym same) taken.past_links);
+            (subst (λ (r : Resolver). IsFirstPlace (BreaksReferenceRule [] TooManyLinks) tags (bound r.past_links)) (sym same) taken.past_links);
       }
 
 -- there are few intervals
-pub few_intervals_taken : {tags : List PlainTyped} {old : Resolver} → HasTaken tags old → old.contents.counts.instances + old.contents.counts.timex < 2 ^ 32
+pub few_intervals_taken : {tags : List PlainTyped} {old : Resolver} → HasTakenTags tags old → old.contents.counts.instances + old.contents.counts.timex < 2 ^ 32
 few_intervals_taken {tags} {old} taken = omega (arith, number_is tags old.contents.counts taken.counts, count_intervals tags, count_by-le-length is_interval tags, taken.placed.few)

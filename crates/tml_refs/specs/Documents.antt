@@ -9,11 +9,11 @@ use Rattle.timex_value.specs.declared.value.Value.{Value}
 use Rattle.tml_types.specs.declared.typed.TagKind.{TagKind}
 use Rattle.tml_types.specs.declared.typed.TagKind.TheVariants as kind
 use Rattle.tml_types.specs.Content as content
-use Rattle.tml_types.specs.Content.{Content, PlainTyped, Reference}
+use Rattle.tml_types.specs.Content.{PlainTyped, Reference}
 use Rattle.tml_types.specs.References.{is_of_kind}
 use Rattle.tml_refs.specs.declared.document.Counts.{Counts}
 use Rattle.tml_refs.specs.declared.document.DocLink.{DocLink}
-use Rattle.tml_refs.specs.Rules.{Breaks, is_tlink}
+use Rattle.tml_refs.specs.Rules.{BreaksReferenceRule, is_tlink}
 
 -- a time, by what its calendar interval depends on
 pub record Time : Type 0 where
@@ -85,7 +85,7 @@ counts_of tags = record {
 
 -- No tag of a document breaks a rule, and it has the intervals of its tags in order, a link for each TLINK in order, and the number of tags of each kind.
 pub record Resolved (tags : List PlainTyped) (doc : PlainDocument) : Type 0 where
-  pub sound : NoneBreaks (Breaks tags) tags
+  pub sound : NoneBreaks (BreaksReferenceRule tags) tags
   pub intervals : doc.intervals ≡ intervals_of tags
   pub links : AllZip (IsLinkOf doc.intervals) (filter is_tlink tags) doc.links
   pub counts : doc.counts ≡ counts_of tags

@@ -3,7 +3,7 @@ use Rattle.std.specs.Prelude.{◌≡◌, ◌<◌, ℕ, Bool, true, false, List}
 use Rattle.std.specs.List.{All, AllZip, Contains}
 use Rattle.tml_types.specs.Content as content
 use Rattle.tml_types.specs.Content.{PlainTyped}
-use Rattle.tml_types.specs.View.{end_of}
+use Rattle.tml_types.specs.View.{reference_at_end}
 use Rattle.tml_refs.specs.declared.document.DocLink.{DocLink}
 use Rattle.tml_refs.specs.declared.links.NamedLink.{NamedLink}
 use Rattle.tml_refs.specs.declared.name_index.Entry.{Entry}
@@ -12,17 +12,17 @@ use Rattle.tml_refs.specs.NameIndex.{HasIntervalNumber, is_either_unlisted}
 -- the link of a TLINK by the identifiers of its ends
 abbrev pub IsNamedLink : PlainTyped → NamedLink → Type 0
 IsNamedLink t n = (n.place ≡ t.place) × elim t.content [
-  | content.tlink l ↦ (end_of n.left ≡ l.left) × (n.rel ≡ l.rel) × (end_of n.right ≡ l.right)
+  | content.tlink l ↦ (reference_at_end n.left ≡ l.left) × (n.rel ≡ l.rel) × (reference_at_end n.right ≡ l.right)
   | _ ↦ ⊥
 ]
 
 -- one of its ends is to no tag
 abbrev pub is_loose : List Entry → NamedLink → Bool
-is_loose names n = is_either_unlisted names (end_of n.left) (end_of n.right)
+is_loose names n = is_either_unlisted names (reference_at_end n.left) (reference_at_end n.right)
 
 -- the same link with the numbers of its ends
 abbrev pub IsLinked : List Entry → NamedLink → DocLink → Type 0
-IsLinked names n link = HasIntervalNumber names (end_of n.left) link.a × (link.rel ≡ n.rel) × HasIntervalNumber names (end_of n.right) link.b
+IsLinked names n link = HasIntervalNumber names (reference_at_end n.left) link.a × (link.rel ≡ n.rel) × HasIntervalNumber names (reference_at_end n.right) link.b
 
 -- where none of the links is loose, these are the same links with the numbers of their ends
 abbrev pub AreLinked : List Entry → List NamedLink → List DocLink → Type 0

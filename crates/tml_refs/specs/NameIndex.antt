@@ -70,7 +70,7 @@ abbrev pub HasHead : Key → Type 0
 HasHead k = k.head ≡ head_of k.name.now
 
 -- Entries are ordered by their keys, the head of each is that of its name, and no two have one place.
-pub record AreInOrder (entries : List Entry) : Type 0 where
+pub record AreEntriesInOrder (entries : List Entry) : Type 0 where
   pub sorted : IsSortedByKey key_of key_order entries
   pub heads : All (λ (e : Entry). HasHead e.key) entries
   pub apart : (place : ℕ) → count_by (is_at place) entries ≤ 1

@@ -4,7 +4,7 @@ use Rattle.std.specs.List.{list_any, count_by}
 use Rattle.std.specs.Str.{bytes_eq}
 use Rattle.faults.specs.declared.kind.FaultKind.{FaultKind}
 use Rattle.faults.specs.declared.kind.FaultKind.TheVariants as kinds
-use Rattle.faults.specs.First.{FirstFault}
+use Rattle.faults.specs.First.{FirstBrokenRule}
 use Rattle.faults.specs.Kinds.{number_of}
 use Rattle.net_core.specs.Limits.{max_intervals, max_links}
 use Rattle.tml_types.specs.declared.typed.TagKind.TheVariants as kind
@@ -41,12 +41,12 @@ breaks all kinds.TooManyIntervals before tag = is_interval tag && count_by is_in
 breaks all kinds.TooManyLinks before tag = is_tlink tag && count_by is_tlink before == max_links
 breaks all other before tag = false
 
-abbrev pub Breaks : List PlainTyped → FaultKind → List PlainTyped → PlainTyped → Type 0
-Breaks all rule before tag = breaks all rule before tag ≡ true
+abbrev pub BreaksReferenceRule : List PlainTyped → FaultKind → List PlainTyped → PlainTyped → Type 0
+BreaksReferenceRule all rule before tag = breaks all rule before tag ≡ true
 
 -- at a place stands the first tag of a document that breaks a rule, and this is the first rule that it breaks
-abbrev pub FaultAt : List PlainTyped → ℕ → FaultKind → Type 0
-FaultAt all place rule = FirstFault (Breaks all) number_of place_of all place rule
+abbrev pub ReferenceFaultAt : List PlainTyped → ℕ → FaultKind → Type 0
+ReferenceFaultAt all place rule = FirstBrokenRule (BreaksReferenceRule all) number_of place_of all place rule
 
 -- the kind and the place of a fault; out of memory has none
 abbrev pub kind_and_place : RefFault → Option (FaultKind × ℕ)
@@ -58,4 +58,4 @@ kind_and_place faults.Memory = None
 
 -- the fault of the typed tags of a document; out of memory says nothing
 abbrev pub HasReferenceFault : List PlainTyped → RefFault → Type 0
-HasReferenceFault all fault = IfSome (kind_and_place fault) (λ (f : FaultKind × ℕ). FaultAt all f.1 f.0)
+HasReferenceFault all fault = IfSome (kind_and_place fault) (λ (f : FaultKind × ℕ). ReferenceFaultAt all f.1 f.0)

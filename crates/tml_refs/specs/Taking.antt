@@ -14,11 +14,11 @@ use Rattle.tml_refs.specs.Documents.{counts_of, interval_of, intervals_of}
 use Rattle.tml_refs.specs.Firsts.{IsFirstPlace, bound}
 use Rattle.tml_refs.specs.Linking.{IsNamedLink}
 use Rattle.tml_refs.specs.NameIndex.{AreEntriesOf}
-use Rattle.tml_refs.specs.Rules.{Breaks, is_interval, is_tlink}
+use Rattle.tml_refs.specs.Rules.{BreaksReferenceRule, is_interval, is_tlink}
 use Rattle.tml_refs.specs.View.{plain_interval}
 
 -- A resolver has taken these tags, which are at places that rise.
-pub record HasTaken (tags : List PlainTyped) (r : Resolver) : Type 0 where
+pub record HasTakenTags (tags : List PlainTyped) (r : Resolver) : Type 0 where
   pub placed : HaveRisingPlaces tags
   pub entries : AreEntriesOf tags r.entries
   pub asked : AreAsked tags r.asked
@@ -26,16 +26,16 @@ pub record HasTaken (tags : List PlainTyped) (r : Resolver) : Type 0 where
   pub intervals : length (intervals_of tags) ≤ max_intervals → map plain_interval r.contents.intervals ≡ intervals_of tags
   pub no_links : r.contents.links ≡ []
   pub links : AllZip IsNamedLink (filter is_tlink tags) r.links
-  pub past_intervals : IsFirstPlace (Breaks [] TooManyIntervals) tags (bound r.past_intervals)
-  pub past_links : IsFirstPlace (Breaks [] TooManyLinks) tags (bound r.past_links)
+  pub past_intervals : IsFirstPlace (BreaksReferenceRule [] TooManyIntervals) tags (bound r.past_intervals)
+  pub past_links : IsFirstPlace (BreaksReferenceRule [] TooManyLinks) tags (bound r.past_links)
 
 -- one more tag stands after those that were taken
 abbrev pub MayTake : Resolver → PlainTyped → Type 0
-MayTake r t = (tags : List PlainTyped) × HasTaken tags r × HaveRisingPlaces (tags ++ t ∷ [])
+MayTake r t = (tags : List PlainTyped) × HasTakenTags tags r × HaveRisingPlaces (tags ++ t ∷ [])
 
 -- and is taken
 abbrev pub Takes : Resolver → PlainTyped → Resolver → Type 0
-Takes old t new = (tags : List PlainTyped) → HasTaken tags old → HaveRisingPlaces (tags ++ t ∷ []) → HasTaken (tags ++ t ∷ []) new
+Takes old t new = (tags : List PlainTyped) → HasTakenTags tags old → HaveRisingPlaces (tags ++ t ∷ []) → HasTakenTags (tags ++ t ∷ []) new
 
 -- ---- one tag more
 
@@ -50,12 +50,12 @@ pub record KeepsInterval (old : Resolver) (number place : ℕ) (interval : Inter
   pub past_intervals : new.past_intervals ≡ past true number max_intervals place old.past_intervals
 
 -- a link is kept
-abbrev pub KeepsLink : Resolver → NamedLink → Resolver → Type 0
-KeepsLink old link new =
+abbrev pub AddsLink : Resolver → NamedLink → Resolver → Type 0
+AddsLink old link new =
     new ≡ record old { links = old.links ++ link ∷ []; past_links = past true (length old.links) max_links link.place old.past_links }
 
 -- of a tag that stands after this many intervals the interval or the link is kept
-pub record Adds (old : Resolver) (number : ℕ) (t : PlainTyped) (new : Resolver) : Type 0 where
+pub record AddsTag (old : Resolver) (number : ℕ) (t : PlainTyped) (new : Resolver) : Type 0 where
   pub entries : new.entries ≡ old.entries
   pub asked : new.asked ≡ old.asked
   pub counts : new.contents.counts ≡ old.contents.counts

@@ -12,14 +12,14 @@ use tml_types::{TagKind, TypedTag};
 
 /// A reference of a tag, and where the tag begins.
 #[derive(Clone, Copy)]
-pub struct Asked<'s> {
+pub struct AskedReference<'s> {
     place: u32,
     kind: TagKind,
     name: &'s [u8],
 }
 
 /// Appends the references of a tag, but for the ends of a TLINK.
-pub fn ask<'s>(asked: &mut List<Asked<'s>>, tag: &TypedTag<'s>) -> Result<(), Memory>
+pub fn ask<'s>(asked: &mut List<AskedReference<'s>>, tag: &TypedTag<'s>) -> Result<(), Memory>
     ensures { OnOk result (AsksOf (typed_of tag.now) asked.old asked.new) }
 {
     match *tag {
@@ -72,19 +72,19 @@ pub fn ask<'s>(asked: &mut List<Asked<'s>>, tag: &TypedTag<'s>) -> Result<(), Me
 
 /// Appends a reference.
 fn ask_for<'s>(
-    asked: &mut List<Asked<'s>>,
+    asked: &mut List<AskedReference<'s>>,
     place: u32,
     kind: TagKind,
     name: &'s [u8],
 ) -> Result<(), Memory>
     ensures { OnOk result (Asks place (reference kind name.now ∷ []) asked.old asked.new) }
 {
-    asked.push(Asked { place, kind, name })
+    asked.push(AskedReference { place, kind, name })
 }
 
 /// Appends a reference that a tag may leave out, where it is there.
 fn ask_where<'s>(
-    asked: &mut List<Asked<'s>>,
+    asked: &mut List<AskedReference<'s>>,
     place: u32,
     kind: TagKind,
     name: Option<&'s [u8]>,
@@ -98,7 +98,7 @@ fn ask_where<'s>(
 }
 
 /// The first place of a tag with a reference to no tag.
-pub fn first_unlisted(names: &NameIndex<'_>, asked: &[Asked<'_>]) -> Option<u32>
+pub fn first_unlisted(names: &NameIndex<'_>, asked: &[AskedReference<'_>]) -> Option<u32>
     ensures before { NoneIsUnlisted names.now asked.now (bound result) }
     ensures here { bound result < nowhere → IsUnlistedAt names.now asked.now (bound result) }
 {

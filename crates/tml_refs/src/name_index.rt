@@ -9,7 +9,7 @@ ghost use Rattle.tml_refs.specs.NameIndex.{AreEntriesOf, HasHead, HasIntervalNum
 ghost use Rattle.tml_refs.specs.NameIndex.{IsKeyOf, is_either_unlisted, is_listed, is_unlisted};
 ghost use Rattle.tml_types.specs.Content.{PlainTyped};
 ghost use Rattle.tml_types.specs.References.{id_of, optional_reference, reference};
-ghost use Rattle.tml_types.specs.View.{end_of, text_of, typed_of};
+ghost use Rattle.tml_types.specs.View.{reference_at_end, text_of, typed_of};
 
 use crate::document::DocLink;
 use crate::firsts::earlier;
@@ -81,14 +81,14 @@ pub struct NameIndex<'s> {
 
 impl<'s> Model for NameIndex<'s> {
     ghost use Rattle.std.specs.Prelude.{List};
-    ghost use Rattle.tml_refs.specs.NameIndex.{AreInOrder};
+    ghost use Rattle.tml_refs.specs.NameIndex.{AreEntriesInOrder};
     ghost use Rattle.tml_refs.specs.declared.name_index.Entry.{Entry};
 
     ghost Value = { List Entry };
 
     ghost view = { λ a. a.entries.items };
 
-    ghost invariant = { λ a. AreInOrder a.entries.items };
+    ghost invariant = { λ a. AreEntriesInOrder a.entries.items };
 }
 
 impl<'s> NameIndex<'s> {
@@ -158,8 +158,8 @@ impl<'s> NameIndex<'s> {
 
     /// The number of the interval at an end of a link.
     pub fn end(&self, end: LinkEnd<'_>) -> Option<u32>
-        ensures listed { is_some result ≡ is_listed self.now (end_of end.entry) }
-        ensures number { IfSome result (HasIntervalNumber self.now (end_of end.entry)) }
+        ensures listed { is_some result ≡ is_listed self.now (reference_at_end end.entry) }
+        ensures number { IfSome result (HasIntervalNumber self.now (reference_at_end end.entry)) }
     {
         match end {
             LinkEnd::Instance(name) => self.number_of(TagKind::Instance, name),
@@ -169,10 +169,10 @@ impl<'s> NameIndex<'s> {
 
     /// The link between two ends, or none where one of them is to no tag.
     pub fn link(&self, left: LinkEnd<'_>, rel: Rel, right: LinkEnd<'_>) -> Option<DocLink>
-        ensures none { is_none result ≡ is_either_unlisted self.now (end_of left.entry) (end_of right.entry) }
-        ensures left { IfSome result (λ link. HasIntervalNumber self.now (end_of left.entry) link.a) }
+        ensures none { is_none result ≡ is_either_unlisted self.now (reference_at_end left.entry) (reference_at_end right.entry) }
+        ensures left { IfSome result (λ link. HasIntervalNumber self.now (reference_at_end left.entry) link.a) }
         ensures rel { IfSome result (λ link. link.rel ≡ rel) }
-        ensures right { IfSome result (λ link. HasIntervalNumber self.now (end_of right.entry) link.b) }
+        ensures right { IfSome result (λ link. HasIntervalNumber self.now (reference_at_end right.entry) link.b) }
     {
         let a = self.end(left)?;
         let b = self.end(right)?;

@@ -2,11 +2,11 @@
 ghost use Rattle.std.specs.Prelude.{◌≡◌, List as ListOf, [], IfOk, IfErr, OnOk};
 ghost use Rattle.tml_refs.specs.Documents.{Resolved, counts_of};
 ghost use Rattle.tml_refs.specs.Rules.{HasReferenceFault};
-ghost use Rattle.tml_refs.specs.Taking.{Adds, HasTaken, KeepsInterval, KeepsLink, MayTake, Takes};
+ghost use Rattle.tml_refs.specs.Taking.{AddsTag, HasTakenTags, KeepsInterval, AddsLink, MayTake, Takes};
 ghost use Rattle.tml_types.specs.Content.{PlainTyped};
 ghost use Rattle.tml_types.specs.View.{typed_of};
 
-use crate::asked::{Asked, ask, first_unlisted};
+use crate::asked::{AskedReference, ask, first_unlisted};
 use crate::contents::Contents;
 use crate::document::{Document, Interval};
 use crate::firsts::{earlier, first_fault};
@@ -22,7 +22,7 @@ use tml_types::TypedTag;
 #[derive(Drop)]
 pub struct Resolver<'s> {
     entries: List<Entry<'s>>,
-    asked: List<Asked<'s>>,
+    asked: List<AskedReference<'s>>,
     contents: Contents<'s>,
     links: List<NamedLink<'s>>,
     past_intervals: Option<u32>,
@@ -32,7 +32,7 @@ pub struct Resolver<'s> {
 impl<'s> Resolver<'s> {
     /// Before the first tag. It takes no memory.
     pub fn new(alloc: Global) -> Resolver<'s>
-        ensures { HasTaken [] result }
+        ensures { HasTakenTags [] result }
     {
         Resolver {
             entries: List::new(alloc),
@@ -65,7 +65,7 @@ impl<'s> Resolver<'s> {
 
     /// Keeps the interval or the link of a tag that stands after this many intervals.
     fn add(&mut self, number: u32, tag: &TypedTag<'s>) -> Result<(), Memory>
-        ensures { OnOk result (Adds self.old number (typed_of tag.now) self.new) }
+        ensures { OnOk result (AddsTag self.old number (typed_of tag.now) self.new) }
     {
         match *tag {
             TypedTag::Instance { place, eiid, .. } => {
@@ -128,7 +128,7 @@ impl<'s> Resolver<'s> {
 
     /// Keeps a link.
     fn add_link(&mut self, link: NamedLink<'s>) -> Result<(), Memory>
-        ensures { OnOk result (KeepsLink self.old link.entry self.new) }
+        ensures { OnOk result (AddsLink self.old link.entry self.new) }
     {
         if self.links.as_slice().len() == MAX_LINKS as usize {
             self.past_links = Some(link.place);
@@ -143,9 +143,9 @@ impl<'s> Resolver<'s> {
     /// The first tag in document order that has a fault, and of its faults the one with the least number, in the order
     /// of `RefFault`. `Memory` may come at any place.
     pub fn finish(self) -> Result<Document<'s>, RefFault>
-        requires { (tags : ListOf PlainTyped) × HasTaken tags self }
-        ensures ok { IfOk result (λ d. (tags : ListOf PlainTyped) → HasTaken tags self.entry → Resolved tags d) }
-        ensures err { IfErr result (λ e. (tags : ListOf PlainTyped) → HasTaken tags self.entry → HasReferenceFault tags e) }
+        requires { (tags : ListOf PlainTyped) × HasTakenTags tags self }
+        ensures ok { IfOk result (λ d. (tags : ListOf PlainTyped) → HasTakenTags tags self.entry → Resolved tags d) }
+        ensures err { IfErr result (λ e. (tags : ListOf PlainTyped) → HasTakenTags tags self.entry → HasReferenceFault tags e) }
     {
         let Resolver {
             entries,

@@ -2,6 +2,7 @@
 use Rattle.std.proofs.Common.{◌≡◌, ◌↔◌, ◌⊎◌, inl, inr, ℕ, ◌+◌, ◌<◌, Bool, true, false, cond, List, [], ◌∷◌, length, count_by, get_or, replicate, Option, Some, None, IfSome, IsNone, refl, sym, ap, subst, ◌∙◌, arith, rules}
 use Rattle.std.specs.List.{Contains, slice_get}
 use Rattle.std.proofs.lemmas.Bool.{cases_lt}
+use Rattle.std.proofs.lemmas.Bool.Decides.{same_from_decides}
 use Rattle.std.proofs.lemmas.List.{get_or-replicate, get_or_past}
 use Rattle.std.proofs.lemmas.List.Elements.{All-contains, All-get_or}
 use Rattle.std.proofs.lemmas.List.Sums.{sum_by-cons}
@@ -24,7 +25,7 @@ use Rattle.order_closure.specs.Tables.{Table}
 use Rattle.tml_refs.specs.Documents.{IsNamed, PlainInterval, instance, interval_name}
 use Rattle.tml_refs.proofs.NamedIntervals.{named_or_not}
 use Rattle.tml_score.specs.Scores.{Annotation, AreMatched, EveryScore, FollowsIn, HaveOneName, IsClosedOf, IsCountOf, IsSound, OneScore}
-use Rattle.tml_score.specs.Scoring.{ArePartners, AreWithin, EntailsBetween, IsPartner}
+use Rattle.tml_score.specs.Scoring.{ArePartners, ArePartnersWithin, EntailsBetween, IsPartner}
 use Rattle.tml_score.proofs.Redundancy.{atoms_decided, every_net_is_reduced, one_reduced_list}
 use Rattle.clash.proofs.Elements.{first_in, rest_in}
 
@@ -76,7 +77,7 @@ module _ (own other : Annotation) (of_own : IsNetOf own.contents own.net) (own_n
 
   module _ (table : Table) (closed : IsClosedOf other table) where
     -- partners are intervals of the table
-    pub partners_within : AreWithin table.points partners
+    pub partners_within : ArePartnersWithin table.points partners
     partners_within i j at = elim (cases_lt i (length own.contents.intervals)) [
       | inl lt ↦
           let have = (are.each i lt j).0 at in
@@ -116,14 +117,8 @@ count_same test other (k ∷ ks) same =
     let rest = count_same test other ks (λ j among. same j (rest_in k ks j among)) in
     sum_by-cons (λ j. cond (test j) 1 0) k ks ∙ (λ i. cond (here i) 1 0 + rest i) ∙ sym (sum_by-cons (λ j. cond (other j) 1 0) k ks)
 
--- two tests that tell the same
-same_test : (P : Type 0) (a b : Bool) → (a ≡ true) ↔ P → (b ≡ true) ↔ P → a ≡ b
-same_test P true b h k = sym (k.1 (h.0 refl))
-same_test P false true h k = absurd (let e = h.1 (k.0 refl) in cc)
-same_test P false false h k = refl
-
 one_count : (P : ℕ → Type 0) (ks : List ℕ) (m n : ℕ) → IsCountOf P ks m → IsCountOf P ks n → m ≡ n
-one_count P ks m n is are = is.2 ∙ count_same is.0 are.0 ks (λ k among. same_test (P k) (is.0 k) (are.0 k) (is.1 k among) (are.1 k among)) ∙ sym are.2
+one_count P ks m n is are = is.2 ∙ count_same is.0 are.0 ks (λ k among. same_from_decides (is.0 k) (are.0 k) (is.1 k among) (are.1 k among)) ∙ sym are.2
 
 one_matched : (own other : Annotation) (links matched more found : ℕ) → AreMatched own other links matched → AreMatched own other more found → (links ≡ more) × (matched ≡ found)
 one_matched own other links matched more found is are =

@@ -1,9 +1,9 @@
 -- The orders of a net.
-use Rattle.std.proofs.Common.{◌≡◌, ◌↔◌, ◌⊎◌, inl, inr, ℕ, ◌+◌, ◌<◌, Bool, true, false, List, [], ◌∷◌, ◌++◌, length, get_or, Option, Some, None, refl, sym, ap, subst, ◌∙◌, arith}
+use Rattle.std.proofs.Common.{◌≡◌, ◌↔◌, ◌⊎◌, inl, inr, ℕ, ◌+◌, ◌<◌, Bool, true, false, List, [], length, get_or, Option, Some, None, refl, sym, ap, subst, ◌∙◌, arith}
 use Rattle.std.specs.List.{Contains}
 use Rattle.std.specs.List.Sorted.{IsPermutation}
 use Rattle.std.proofs.lemmas.Bool.{cases_lt}
-use Rattle.std.proofs.lemmas.List.Elements.{All-contains, All-from_recursion, All-get_or, Contains-append_left, Contains-get_or, Contains-push, Contains-push_cases}
+use Rattle.std.proofs.lemmas.List.Elements.{All-contains, All-from_recursion, All-get_or, Contains-get_or}
 use Rattle.std.proofs.lemmas.List.{get_or_default}
 use Rattle.std.proofs.lemmas.List.Sorted.{Contains-permutation, IsPermutation-sym}
 use Rattle.net_orders.specs.declared.orders.Order.{Order}
@@ -17,8 +17,8 @@ use Rattle.net_core.specs.declared.net.NetLink.{NetLink}
 use Rattle.net_core.specs.declared.rels.Rel.TheVariants as rel
 use Rattle.net_core.proofs.AtomLaws.{atoms_in_range}
 use Rattle.clash.proofs.Elements.{every}
-use Rattle.tml_score.specs.Ends.{end_of}
-use Rattle.tml_score.specs.Graph.{Adds, AreAll, AreOfPoint, AreAllOrders, IsFixed, IsGraphOf, IsOfSome, by_end, counts, link_atoms}
+use Rattle.tml_score.specs.Ends.{point_at_end}
+use Rattle.tml_score.specs.Graph.{AddsOrders, HasAllOrders, AreOfPoint, AreAllOrders, IsFixedOrder, IsGraphOf, IsOfSome, by_end, counts, link_atoms}
 use Rattle.tml_score.specs.declared.ends.End.{End}
 use Rattle.tml_score.specs.declared.ends.End.TheVariants.{From, To}
 use Rattle.tml_score.specs.declared.graph.Graph.{Graph}
@@ -26,11 +26,11 @@ use Rattle.tml_score.specs.declared.graph.Graph.{Graph}
 -- ---- lists of orders
 
 -- nothing is added of a set with nothing in it
-pub adds_none : (Listed : Order → Type 0) (orders : List Order) → ((o : Order) → Listed o → ⊥) → Adds Listed orders orders
+pub adds_none : (Listed : Order → Type 0) (orders : List Order) → ((o : Order) → Listed o → ⊥) → AddsOrders Listed orders orders
 adds_none Listed orders none o = (λ h. inl h, λ h. elim h [ inl old ↦ old | inr new ↦ absurd (none o new) ])
 
 -- one set, and then another one
-pub adds_then : (P Q R : Order → Type 0) (old mid new : List Order) → ((o : Order) → R o ↔ (P o ⊎ Q o)) → Adds P old mid → Adds Q mid new → Adds R old new
+pub adds_then : (P Q R : Order → Type 0) (old mid new : List Order) → ((o : Order) → R o ↔ (P o ⊎ Q o)) → AddsOrders P old mid → AddsOrders Q mid new → AddsOrders R old new
 adds_then P Q R old mid new both first second o = (
   λ h. elim ((second o).0 h) [
     | inl was ↦ elim ((first o).0 was) [ inl before ↦ inl before | inr p ↦ inr ((both o).1 (inl p)) ]
@@ -43,20 +43,10 @@ adds_then P Q R old mid new both first second o = (
 )
 
 -- two sets that are the same
-pub adds_same : (P Q : Order → Type 0) (old new : List Order) → ((o : Order) → P o ↔ Q o) → Adds P old new → Adds Q old new
+pub adds_same : (P Q : Order → Type 0) (old new : List Order) → ((o : Order) → P o ↔ Q o) → AddsOrders P old new → AddsOrders Q old new
 adds_same P Q old new same adds o = (
   λ h. elim ((adds o).0 h) [ inl was ↦ inl was | inr p ↦ inr ((same o).0 p) ],
   λ h. elim h [ inl was ↦ (adds o).1 (inl was) | inr q ↦ (adds o).1 (inr ((same o).1 q)) ],
-)
-
--- one order more
-pub adds_one : (order : Order) (old new : List Order) → new ≡ old ++ order ∷ [] → Adds (λ o. o ≡ order) old new
-adds_one order old new is o = (
-  λ h. elim (Contains-push_cases old order o (subst (λ (os : List Order). Contains os o) is h)) [ inl was ↦ inl was | inr e ↦ inr (sym e) ],
-  λ h. subst (λ (os : List Order). Contains os o) (sym is) (elim h [
-    | inl was ↦ Contains-append_left old (order ∷ []) o was
-    | inr e ↦ subst (Contains (old ++ order ∷ [])) (sym e) (Contains-push old order)
-  ]),
 )
 
 -- those of the first n of some sets
@@ -89,7 +79,7 @@ all_at atoms link o = (
 )
 
 -- all orders
-pub all_added : (net : PlainNet) (fixed : List Atom) (old mid new : List Order) → old ≡ [] → Adds (IsFixed fixed) old mid → Adds (IsOfSome net) mid new → AreAll net fixed new
+pub all_added : (net : PlainNet) (fixed : List Atom) (old mid new : List Order) → old ≡ [] → AddsOrders (IsFixedOrder fixed) old mid → AddsOrders (IsOfSome net) mid new → HasAllOrders net fixed new
 all_added net fixed old mid new empty first second o = (
   λ h. elim ((second o).0 h) [
     | inl was ↦ elim ((first o).0 was) [
@@ -155,13 +145,13 @@ module _ (net : PlainNet) (graph : Graph) (is : IsGraphOf net graph) (near : End
   by_points = elim near as (λ e. (by_end e graph).points ≡ points net) [ From ↦ is.onward_points | To ↦ is.back_points ]
 
   -- those that have it at an end
-  pub at_end : (items : List Order) (point : ℕ) → AreOfPoint (by_end near graph) point items → (o : Order) → Contains items o ↔ (Contains graph.onward.items o × (end_of near o ≡ point))
+  pub at_end : (items : List Order) (point : ℕ) → AreOfPoint (by_end near graph) point items → (o : Order) → Contains items o ↔ (Contains graph.onward.items o × (point_at_end near o ≡ point))
   at_end items point exact o =
       let same : (e : End) → Contains (by_end e graph).items o ↔ Contains graph.onward.items o = elim [
         | From ↦ (λ h. h, λ h. h)
         | To ↦ (Contains-permutation graph.back.items graph.onward.items o (IsPermutation-sym graph.onward.items graph.back.items is.same), Contains-permutation graph.onward.items graph.back.items o is.same)
       ] in
-      let at : (e : End) → end_of (by_end e graph).by o ≡ end_of e o = elim [ From ↦ ap (λ e. end_of e o) is.leave | To ↦ ap (λ e. end_of e o) is.lead ] in (
+      let at : (e : End) → point_at_end (by_end e graph).by o ≡ point_at_end e o = elim [ From ↦ ap (λ e. point_at_end e o) is.leave | To ↦ ap (λ e. point_at_end e o) is.lead ] in (
         λ h. ((same near).0 ((exact o).0 h).0, sym (at near) ∙ ((exact o).0 h).1),
         λ h. (exact o).1 ((same near).1 h.0, at near ∙ h.1),
       )

@@ -7,7 +7,7 @@ use Rattle.std.proofs.lemmas.List.Elements.{All-contains, All-contains_itself, A
 use Rattle.std.proofs.lemmas.List.{get_or-replicate, length-replicate, length-set}
 use Rattle.clash.proofs.Complete.{walk_or_counter}
 use Rattle.clash.proofs.MarkedLinks.{every_marked, kept_within}
-use Rattle.clash.proofs.Rounds.{others_set, set_others}
+use Rattle.clash.proofs.ClosedWalks.{others_set, set_others}
 use Rattle.net_core.specs.Atoms.{IsInRange, Satisfies, atoms_of}
 use Rattle.net_core.specs.Clashes.{Others}
 use Rattle.net_core.specs.Fits.{EveryLink, Fits, FitsWith, KeepsLink}

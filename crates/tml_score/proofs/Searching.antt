@@ -25,8 +25,8 @@ use Rattle.order_closure.specs.declared.cell.Cell.{Cell}
 use Rattle.order_closure.specs.declared.cell.Cell.TheVariants.{Free, Strict, Weak}
 use Rattle.tml_score.specs.Meeting.{IsLedTo, IsPassedAt, IsWith}
 use Rattle.tml_score.specs.Graph.{counts, link_atoms}
-use Rattle.tml_score.specs.declared.search.Asked.{Asked}
-use Rattle.tml_score.specs.Search.{AreThrough, Basis, Decides, HasEnough, IsAsked, IsLed, IsPassed, IsReady, IsThrough, IsWay, LeadsOut, Rest, is_other}
+use Rattle.tml_score.specs.declared.search.AskedOrder.{AskedOrder}
+use Rattle.tml_score.specs.Search.{AreThrough, Basis, Decides, HasEnough, IsAsked, IsLed, IsPassed, IsReady, IsThrough, IsRemainingWay, LeadsOut, Rest, is_other}
 use Rattle.tml_score.proofs.GraphLaws.{in_range, link_in_range, orders_say}
 use Rattle.tml_score.proofs.Nested.{nested_atoms}
 use Rattle.clash.proofs.Elements.{in_filter}
@@ -71,7 +71,7 @@ rest_strict true true r h e = absurd cc
 rest_strict true false r h e = h refl
 rest_strict false o r h e = absurd cc
 
-module _ (basis : Basis) (asked : Asked) (ready : IsReady basis) (is : IsAsked basis asked) where
+module _ (basis : Basis) (asked : AskedOrder) (ready : IsReady basis) (is : IsAsked basis asked) where
   abbrev net : PlainNet
   net = basis.net
 
@@ -128,13 +128,13 @@ module _ (basis : Basis) (asked : Asked) (ready : IsReady basis) (is : IsAsked b
 
   -- ---- what the search knows
 
-  pub way_range : (o : Order) → IsWay basis asked o → IsInRange (points net) o.atom
+  pub way_range : (o : Order) → IsRemainingWay basis asked o → IsInRange (points net) o.atom
   way_range o way = in_range net ready.net basis.graph.onward.items ready.graph.orders o way.0
 
   pub asked_range : IsInRange (points net) asked.order
   asked_range = link_in_range net ready.net asked.link is.link asked.order is.order
 
-  pub way_true : (t : Timeline) → FitsWith net (Rest basis asked) t → (o : Order) → IsWay basis asked o → Satisfies t o.atom
+  pub way_true : (t : Timeline) → FitsWith net (Rest basis asked) t → (o : Order) → IsRemainingWay basis asked o → Satisfies t o.atom
   way_true t fits o way = rest_true t fits o ((within (is_other basis.keep asked.link) o).1 way)
 
   -- what the table gives always holds, and the other way round
@@ -153,14 +153,14 @@ module _ (basis : Basis) (asked : Asked) (ready : IsReady basis) (is : IsAsked b
   }
 
   -- a way from a point after the first leads to one after it
-  pub goes_on : (o : Order) → IsWay basis asked o → IsLed basis asked o.atom.from → IsLed basis asked o.atom.to
+  pub goes_on : (o : Order) → IsRemainingWay basis asked o → IsLed basis asked o.atom.from → IsLed basis asked o.atom.to
   goes_on o way led = λ t fits.
       let first = led t fits in
       let step : t o.atom.from ≤ t o.atom.to = in_order_weaker false o.atom.strict (t o.atom.from) (t o.atom.to) (λ e. cc) (way_true t fits o way) in
       omega (arith, first, step)
 
   -- and goes on to a point that a way leads to, which doesn't lead out
-  pub goes_through : (o : Order) → IsWay basis asked o → IsLed basis asked o.atom.from → (LeadsOut basis asked o → ⊥) → IsThrough basis asked o.atom.to
+  pub goes_through : (o : Order) → IsRemainingWay basis asked o → IsLed basis asked o.atom.from → (LeadsOut basis asked o → ⊥) → IsThrough basis asked o.atom.to
   goes_through o way led not = record {
     led = goes_on o way led;
     back = λ free. not (inr free);
@@ -271,7 +271,7 @@ module _ (basis : Basis) (asked : Asked) (ready : IsReady basis) (is : IsAsked b
 
   -- ---- what isn't found can fail
 
-  module _ (xs : List ℕ) (through : AreThrough basis asked xs) (passed : (o : Order) → IsWay basis asked o → Contains xs o.atom.from → IsPassed basis asked xs o) where
+  module _ (xs : List ℕ) (through : AreThrough basis asked xs) (passed : (o : Order) → IsRemainingWay basis asked o → Contains xs o.atom.from → IsPassed basis asked xs o) where
     at : (x : ℕ) → Contains xs x → IsThrough basis asked x
     at x among = All-contains (IsThrough basis asked) xs x through among
 
@@ -293,7 +293,7 @@ module _ (basis : Basis) (asked : Asked) (ready : IsReady basis) (is : IsAsked b
           | inr next ↦ no_path es e.atom.to next leads.2 (λ s. later e.atom.strict refl (strict s) way (at e.atom.from from) (at e.atom.to next))
         ]
       where
-        later : (o : Bool) → e.atom.strict ≡ o → (e.atom.strict || any_strict atom_of rest es) ≡ true → IsWay basis asked e → IsThrough basis asked e.atom.from → IsThrough basis asked e.atom.to → any_strict atom_of rest es ≡ true
+        later : (o : Bool) → e.atom.strict ≡ o → (e.atom.strict || any_strict atom_of rest es) ≡ true → IsRemainingWay basis asked e → IsThrough basis asked e.atom.from → IsThrough basis asked e.atom.to → any_strict atom_of rest es ≡ true
         later false eq some way here there = sym (ap (λ (b : Bool). b || any_strict atom_of rest es) eq) ∙ some
         later true eq some way here there = absurd (
             let step : u e.atom.from < u e.atom.to = subst (λ (b : Bool). IsInOrder b (u e.atom.from) (u e.atom.to)) eq (way_true u (rest_fits u ready.fits.1) e way) in
@@ -311,7 +311,7 @@ module _ (basis : Basis) (asked : Asked) (ready : IsReady basis) (is : IsAsked b
   -- ---- points at one place
 
   -- and one to a point before the last begins before it
-  pub goes_back : (o : Order) → IsWay basis asked o → IsLedTo basis asked o.atom.to → IsLedTo basis asked o.atom.from
+  pub goes_back : (o : Order) → IsRemainingWay basis asked o → IsLedTo basis asked o.atom.to → IsLedTo basis asked o.atom.from
   goes_back o way to = λ t fits.
       let last = to t fits in
       let step : t o.atom.from ≤ t o.atom.to = in_order_weaker false o.atom.strict (t o.atom.from) (t o.atom.to) (λ e. cc) (way_true t fits o way) in
@@ -344,7 +344,7 @@ module _ (basis : Basis) (asked : Asked) (ready : IsReady basis) (is : IsAsked b
         weaker t o holds = in_order_weaker false o.atom.strict (t o.atom.from) (t o.atom.to) (λ s. cc) holds
 
     -- a side whose ways onward are all passed has the last point, if a path leads there
-    on_to_last : (xs : List ℕ) → All (IsLed basis asked) xs → ((o : Order) → IsWay basis asked o → Contains xs o.atom.from → IsPassedAt basis asked xs o.atom.to)
+    on_to_last : (xs : List ℕ) → All (IsLed basis asked) xs → ((o : Order) → IsRemainingWay basis asked o → Contains xs o.atom.from → IsPassedAt basis asked xs o.atom.to)
         → (es : List Order) (x : ℕ) → Contains xs x → Leads atom_of rest es x q → Contains xs q
     on_to_last xs led passed [] x among leads = subst (Contains xs) leads among
     on_to_last xs led passed (e ∷ es) x among leads =
@@ -356,7 +356,7 @@ module _ (basis : Basis) (asked : Asked) (ready : IsReady basis) (is : IsAsked b
         ]
 
     -- and one whose ways back are all passed has each point from which a path leads to the last
-    back_to_first : (ys : List ℕ) → Contains ys q → ((o : Order) → IsWay basis asked o → Contains ys o.atom.to → IsPassedAt basis asked ys o.atom.from)
+    back_to_first : (ys : List ℕ) → Contains ys q → ((o : Order) → IsRemainingWay basis asked o → Contains ys o.atom.to → IsPassedAt basis asked ys o.atom.from)
         → (es : List Order) (x : ℕ) → IsLed basis asked x → Leads atom_of rest es x q → Contains ys x
     back_to_first ys last passed [] x led leads = subst (Contains ys) (sym leads) last
     back_to_first ys last passed (e ∷ es) x led leads =
@@ -376,10 +376,10 @@ module _ (basis : Basis) (asked : Asked) (ready : IsReady basis) (is : IsAsked b
 
     -- where a side onward is at its end without the last point the order can fail
     pub onward_ends : (xs : List ℕ) → All (IsLed basis asked) xs → Contains xs p → (Contains xs q → ⊥)
-        → ((o : Order) → IsWay basis asked o → Contains xs o.atom.from → IsPassedAt basis asked xs o.atom.to) → Decides basis asked false
+        → ((o : Order) → IsRemainingWay basis asked o → Contains xs o.atom.from → IsPassedAt basis asked xs o.atom.to) → Decides basis asked false
     onward_ends xs led first last passed = path_or_fails (λ es leads. last (on_to_last xs led passed es p first leads))
 
     -- and so it can where a side back is at its end without the first one
     pub back_ends : (ys : List ℕ) → Contains ys q → (Contains ys p → ⊥)
-        → ((o : Order) → IsWay basis asked o → Contains ys o.atom.to → IsPassedAt basis asked ys o.atom.from) → Decides basis asked false
+        → ((o : Order) → IsRemainingWay basis asked o → Contains ys o.atom.to → IsPassedAt basis asked ys o.atom.from) → Decides basis asked false
     back_ends ys last first passed = path_or_fails (λ es leads. first (back_to_first ys last passed es p (λ t fits. omega arith) leads))

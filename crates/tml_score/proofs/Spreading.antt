@@ -6,19 +6,19 @@ use Rattle.std.proofs.lemmas.List.{append-nil, get_or_append_left, get_or_defaul
 use Rattle.std.proofs.lemmas.List.Elements.{All-get_or, All-push, Contains-append_left, Contains-push}
 use Rattle.net_orders.specs.declared.orders.Order.{Order}
 use Rattle.tml_score.specs.Reached.{PlainReached}
-use Rattle.tml_score.specs.Search.{AreMarks, Basis, Extends, GoesOn, IsAsked, IsEnough, IsLed, IsPassed, IsReady, IsSearch, IsThrough, IsWay, LeadsOut}
-use Rattle.tml_score.specs.declared.search.Asked.{Asked}
+use Rattle.tml_score.specs.Search.{AreMarks, Basis, ExtendsReached, GoesOn, IsAsked, IsEnough, IsLed, IsPassed, IsReady, IsSearch, IsThrough, IsRemainingWay, LeadsOut}
+use Rattle.tml_score.specs.declared.search.AskedOrder.{AskedOrder}
 use Rattle.tml_score.proofs.Searching.{goes_through, not_out}
 
 -- ---- points that were put last
 
-pub extends_none : (r : PlainReached) → Extends r r
+pub extends_none : (r : PlainReached) → ExtendsReached r r
 extends_none r = ([], sym (append-nil r.points))
 
-pub extends_then : (a b c : PlainReached) → Extends a b → Extends b c → Extends a c
+pub extends_then : (a b c : PlainReached) → ExtendsReached a b → ExtendsReached b c → ExtendsReached a c
 extends_then a b c first second = (first.0 ++ second.0, second.1 ∙ ap (λ (xs : List ℕ). xs ++ second.0) first.1 ∙ append_assoc a.points first.0 second.0)
 
-module _ (old new : PlainReached) (more : Extends old new) where
+module _ (old new : PlainReached) (more : ExtendsReached old new) where
   pub still_there : (x : ℕ) → Contains old.points x → Contains new.points x
   still_there x among = subst (λ (xs : List ℕ). Contains xs x) (sym more.1) (Contains-append_left old.points more.0 x among)
 
@@ -28,7 +28,7 @@ module _ (old new : PlainReached) (more : Extends old new) where
   pub no_fewer : length old.points ≤ length new.points
   no_fewer = omega (arith, ap length more.1, length-append old.points more.0)
 
-  pub passed_more : (basis : Basis) (asked : Asked) (o : Order) → IsPassed basis asked old.points o → IsPassed basis asked new.points o
+  pub passed_more : (basis : Basis) (asked : AskedOrder) (o : Order) → IsPassed basis asked old.points o → IsPassed basis asked new.points o
   passed_more basis asked o passed = (passed.0, elim passed.1 [ inl out ↦ inl out | inr among ↦ inr (still_there o.atom.to among) ])
 
 -- there is a mark for the link of each order
@@ -38,7 +38,7 @@ marked_link basis ready o among = elim ((ready.graph.orders.all o).0 among) [
   | inr linked ↦ subst (λ (l : Option ℕ). IfSome l (λ k. k < length basis.keep)) (sym linked.2.0) (omega (arith, linked.1, ready.marks))
 ]
 
-module _ (basis : Basis) (asked : Asked) (ready : IsReady basis) (is : IsAsked basis asked) where
+module _ (basis : Basis) (asked : AskedOrder) (ready : IsReady basis) (is : IsAsked basis asked) where
   -- a way to a point that was reached is passed
   pub passed_there : (reached : PlainReached) → IsSearch basis asked reached → (order o : Order) → Contains reached.points order.atom.to → o ≡ order → IsPassed basis asked reached.points o
   passed_there reached search order o among same =
@@ -47,9 +47,9 @@ module _ (basis : Basis) (asked : Asked) (ready : IsReady basis) (is : IsAsked b
       (λ enough. not_out basis asked ready is o through enough.0, inr there)
 
   -- a way that doesn't lead out, and whose point was added, is passed
-  pub added : (old new : PlainReached) (order : Order) → IsSearch basis asked old → IsWay basis asked order → IsLed basis asked order.atom.from → (LeadsOut basis asked order → ⊥)
+  pub added : (old new : PlainReached) (order : Order) → IsSearch basis asked old → IsRemainingWay basis asked order → IsLed basis asked order.atom.from → (LeadsOut basis asked order → ⊥)
       → new ≡ record { points = old.points ++ order.atom.to ∷ []; room = old.room }
-      → IsSearch basis asked new × Extends old new × ((o : Order) → IsWay basis asked o → o ≡ order → IsPassed basis asked new.points o)
+      → IsSearch basis asked new × ExtendsReached old new × ((o : Order) → IsRemainingWay basis asked o → o ≡ order → IsPassed basis asked new.points o)
   added old new order search way led not same =
       let through = goes_through basis asked ready is order way led not in
       let points_are : new.points ≡ old.points ++ order.atom.to ∷ [] = ap (λ (r : PlainReached). r.points) same in
@@ -60,7 +60,7 @@ module _ (basis : Basis) (asked : Asked) (ready : IsReady basis) (is : IsAsked b
       (now, (order.atom.to ∷ [], points_are), λ o other e. passed_there new now order o (subst (λ (xs : List ℕ). Contains xs order.atom.to) (sym points_are) (Contains-push old.points order.atom.to)) e)
 
   -- a way that leads out is enough, or it is passed
-  pub decided : (reached : PlainReached) (order : Order) (b : Bool) → IsSearch basis asked reached → IsWay basis asked order → IsLed basis asked order.atom.from → LeadsOut basis asked order
+  pub decided : (reached : PlainReached) (order : Order) (b : Bool) → IsSearch basis asked reached → IsRemainingWay basis asked order → IsLed basis asked order.atom.from → LeadsOut basis asked order
       → (IsTrue b ↔ IsEnough basis asked order) → GoesOn basis asked (λ o. o ≡ order) reached reached (Ok b)
   decided reached order true looks way led out says = ((order, way, led, says.0 (search rules)), looks.room)
   decided reached order false looks way led out says = (
@@ -72,10 +72,10 @@ module _ (basis : Basis) (asked : Asked) (ready : IsReady basis) (is : IsAsked b
   )
 
   -- one way more of a list is passed, or no way
-  pub passed_one : (items : List Order) (i : ℕ) (d : Order) (mid new : PlainReached) → i < length items → Extends mid new
-      → ((k : ℕ) (e : Order) → k < i → IsWay basis asked (get_or items k e) → IsPassed basis asked mid.points (get_or items k e))
-      → ((o : Order) → IsWay basis asked o → o ≡ get_or items i d → IsPassed basis asked new.points o)
-      → (k : ℕ) (e : Order) → k < i + 1 → IsWay basis asked (get_or items k e) → IsPassed basis asked new.points (get_or items k e)
+  pub passed_one : (items : List Order) (i : ℕ) (d : Order) (mid new : PlainReached) → i < length items → ExtendsReached mid new
+      → ((k : ℕ) (e : Order) → k < i → IsRemainingWay basis asked (get_or items k e) → IsPassed basis asked mid.points (get_or items k e))
+      → ((o : Order) → IsRemainingWay basis asked o → o ≡ get_or items i d → IsPassed basis asked new.points o)
+      → (k : ℕ) (e : Order) → k < i + 1 → IsRemainingWay basis asked (get_or items k e) → IsPassed basis asked new.points (get_or items k e)
   passed_one items i d mid new lt more before here k e less way = elim (cases_lt k i) [
     | inl earlier ↦ passed_more mid new more basis asked (get_or items k e) (before k e earlier way)
     | inr last ↦

@@ -8,7 +8,7 @@ use Rattle.net_orders.specs.declared.orders.Order.{Order}
 use Rattle.net_core.specs.Atoms.{IsInRange}
 use Rattle.net_core.specs.Nets.{points}
 use Rattle.point_index.specs.Index.{PlainIndex}
-use Rattle.tml_score.specs.Ends.{end_of, far_end_of}
+use Rattle.tml_score.specs.Ends.{point_at_end, far_end_of}
 use Rattle.tml_score.specs.Search.{Basis, IsReady}
 use Rattle.tml_score.specs.Ties.{AreOrders, AreOrdersBy}
 use Rattle.tml_score.specs.Tree.{no_order}
@@ -17,7 +17,7 @@ use Rattle.tml_score.specs.declared.ends.End.TheVariants.{From, To}
 use Rattle.tml_score.proofs.GraphLaws.{in_range}
 
 -- both ends of an order are points of the net
-near_range : (n : ℕ) (near : End) (o : Order) → IsInRange n o.atom → end_of near o < n
+near_range : (n : ℕ) (near : End) (o : Order) → IsInRange n o.atom → point_at_end near o < n
 near_range n From o range = range.0
 near_range n To o range = range.1
 
@@ -38,7 +38,7 @@ module _ (basis : Basis) where
     pub order_range : (o : Order) → Contains basis.graph.onward.items o → IsInRange (points basis.net) o.atom
     order_range o among = in_range basis.net ready.net basis.graph.onward.items ready.graph.orders o among
 
-    pub near_within : (near : End) (o : Order) → Contains basis.graph.onward.items o → end_of near o < points basis.net
+    pub near_within : (near : End) (o : Order) → Contains basis.graph.onward.items o → point_at_end near o < points basis.net
     near_within near o among = near_range (points basis.net) near o (order_range o among)
 
     pub far_within : (near : End) (o : Order) → Contains basis.graph.onward.items o → far_end_of near o < points basis.net

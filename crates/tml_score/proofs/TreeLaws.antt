@@ -5,16 +5,16 @@ use Rattle.std.proofs.lemmas.Bool.{OnTrue_at, cases_eq, cases_lt, eq-eqb, eqb-fa
 use Rattle.std.proofs.lemmas.List.{get_or-take, get_or_append_left, get_or_default, get_or_push, length-set, length_push}
 use Rattle.std.proofs.lemmas.List.Elements.{All-get_or, All-push, All-weaker}
 use Rattle.clash.specs.Closures.{IsClosureOf}
-use Rattle.net_orders.specs.Orders.{is_link, is_of}
+use Rattle.net_orders.specs.Orders.{is_this_link, is_of}
 use Rattle.net_orders.specs.declared.orders.Order.{Order}
-use Rattle.clash.proofs.Rounds.{others_set}
+use Rattle.clash.proofs.ClosedWalks.{others_set}
 use Rattle.net_core.specs.Atoms.{Satisfies}
 use Rattle.net_core.specs.Entailment.{HasTimeline}
 use Rattle.net_core.specs.Fits.{FitsWith}
 use Rattle.net_core.specs.Nets.{IsNet}
 use Rattle.net_core.specs.Relations.{Timeline}
 use Rattle.net_core.proofs.WalkLaws.{in_order_weaker}
-use Rattle.tml_score.specs.Ends.{end_of, far_end_of}
+use Rattle.tml_score.specs.Ends.{point_at_end, far_end_of}
 use Rattle.tml_score.specs.Graph.{IsGraphOf, counts}
 use Rattle.tml_score.specs.Reducing.{AreGoneOver}
 use Rattle.tml_score.specs.Search.{Basis, IsAsked, IsLed, IsReady, Rest, is_other}
@@ -24,7 +24,7 @@ use Rattle.tml_score.specs.Trees.{IsKnown}
 use Rattle.tml_score.specs.Meeting.{IsLedTo}
 use Rattle.tml_score.specs.declared.ends.End.{End}
 use Rattle.tml_score.specs.declared.ends.End.TheVariants.{From, To}
-use Rattle.tml_score.specs.declared.search.Asked.{Asked}
+use Rattle.tml_score.specs.declared.search.AskedOrder.{AskedOrder}
 use Rattle.tml_score.specs.declared.ties.Ties.{Ties}
 use Rattle.tml_score.specs.declared.tree.Tree.{Tree}
 use Rattle.tml_score.specs.declared.trees.Known.{Known}
@@ -33,7 +33,7 @@ use Rattle.tml_score.proofs.Searching.{other_kept, way_true}
 -- ---- what a tree joins
 
 -- an order leads on from what is beyond a root
-beyond_then : (near : End) (t : Timeline) (root : ℕ) (o : Order) → IsBeyond near t root (end_of near o) → Satisfies t o.atom → IsBeyond near t root (far_end_of near o)
+beyond_then : (near : End) (t : Timeline) (root : ℕ) (o : Order) → IsBeyond near t root (point_at_end near o) → Satisfies t o.atom → IsBeyond near t root (far_end_of near o)
 beyond_then From t root o first holds = let step : t o.atom.from ≤ t o.atom.to = in_order_weaker false o.atom.strict (t o.atom.from) (t o.atom.to) (λ e. cc) holds in omega (arith, first, step)
 beyond_then To t root o first holds = let step : t o.atom.from ≤ t o.atom.to = in_order_weaker false o.atom.strict (t o.atom.from) (t o.atom.to) (λ e. cc) holds in omega (arith, first, step)
 
@@ -118,20 +118,20 @@ module _ (basis : Basis) (roots : List ℕ) (near : End) (old new : Tree) (o : O
               let here : order_at new.orders.items i ≡ o = last_order old.orders.items o new.orders.items orders i at in
               λ t hold. subst (λ (x : Order). IsBeyond near t (slice_index roots (far_end_of near x)) (far_end_of near x)) (sym here) (
               let all : HoldBefore t old.orders.items (length old.orders.items) = λ j less within. hold_fewer old.orders.items o new.orders.items orders t (i + 1) hold j (omega (arith, less, at)) within in
-              let from : IsBeyond near t (slice_index roots (end_of old.near o)) (end_of old.near o) = covered_joined basis roots near old is (length old.orders.items) (end_of old.near o) on.covered t all in
+              let from : IsBeyond near t (slice_index roots (point_at_end old.near o)) (point_at_end old.near o) = covered_joined basis roots near old is (length old.orders.items) (point_at_end old.near o) on.covered t all in
               let holds : Satisfies t o.atom = subst (λ (x : Order). Satisfies t x.atom) here (hold i (omega arith) lt) in
-              let root : IsBeyond near t (slice_index roots (far_end_of old.near o)) (end_of old.near o) = subst (λ (r : ℕ). IsBeyond near t r (end_of old.near o)) on.one_root from in
+              let root : IsBeyond near t (slice_index roots (far_end_of old.near o)) (point_at_end old.near o) = subst (λ (r : ℕ). IsBeyond near t r (point_at_end old.near o)) on.one_root from in
               subst (λ (x : ℕ). IsBeyond near t (slice_index roots x) x) (sym far_end)
               (subst (λ (n : End). IsBeyond near t (slice_index roots (far_end_of n o)) (far_end_of n o)) (sym is.end)
               (beyond_then near t (slice_index roots (far_end_of near o)) o
-              (subst (λ (n : End). IsBeyond near t (slice_index roots (far_end_of n o)) (end_of n o)) is.end root) holds)))
+              (subst (λ (n : End). IsBeyond near t (slice_index roots (far_end_of n o)) (point_at_end n o)) is.end root) holds)))
         ];
       }
 
 -- ---- fewer orders
 
 -- an order of another link is kept without one
-kept_without : (keep : List Bool) (link : ℕ) (m : Option ℕ) → is_link link m ≡ false → counts (λ k. slice_index_or keep k false) m ≡ true → counts (λ k. slice_index_or (slice_set keep link false) k false) m ≡ true
+kept_without : (keep : List Bool) (link : ℕ) (m : Option ℕ) → is_this_link link m ≡ false → counts (λ k. slice_index_or keep k false) m ≡ true → counts (λ k. slice_index_or (slice_set keep link false) k false) m ≡ true
 kept_without keep link None other kept = refl
 kept_without keep link (Some k) other kept = elim (cases_eq k link) [
   | inl same ↦ absurd (let is = eq-eqb k link same in let both : true ≡ false = sym is ∙ other in cc)
@@ -177,11 +177,11 @@ ready_so_far basis n net fits closure graph are = record { net = net; fits = fit
 -- ---- what trees show
 
 -- an order of the tree that isn't of a link is of none, or of another one that is kept
-other_kept_link : (keep : List Bool) (link : ℕ) (m : Option ℕ) → is_link link m ≡ false → counts (λ k. slice_index_or keep k false) m ≡ true → counts (is_other keep link) m ≡ true
+other_kept_link : (keep : List Bool) (link : ℕ) (m : Option ℕ) → is_this_link link m ≡ false → counts (λ k. slice_index_or keep k false) m ≡ true → counts (is_other keep link) m ≡ true
 other_kept_link keep link None other kept = refl
 other_kept_link keep link (Some k) other kept = (other_kept keep link k).1 (kept, eqb-false k link other)
 
-module _ (basis : Basis) (asked : Asked) (ready : IsReady basis) (asks : IsAsked basis asked) (roots : List ℕ) (near : End) (tree : Tree) (is : IsTree basis roots near tree) (n : ℕ) (before : IsBefore asked.link tree n) where
+module _ (basis : Basis) (asked : AskedOrder) (ready : IsReady basis) (asks : IsAsked basis asked) (roots : List ℕ) (near : End) (tree : Tree) (is : IsTree basis roots near tree) (n : ℕ) (before : IsBefore asked.link tree n) where
   -- the orders of a tree before those of a link hold with the other links
   others_hold : (t : Timeline) → FitsWith basis.net (Rest basis asked) t → HoldBefore t tree.orders.items n
   others_hold t fits = λ i less lt.
@@ -193,7 +193,7 @@ module _ (basis : Basis) (asked : Asked) (ready : IsReady basis) (asks : IsAsked
   pub covered_beyond : (point : ℕ) → IsCovered roots tree n point → (t : Timeline) → FitsWith basis.net (Rest basis asked) t → IsBeyond near t (slice_index roots point) point
   covered_beyond point covered t fits = covered_joined basis roots near tree is n point covered t (others_hold t fits)
 
-module _ (basis : Basis) (asked : Asked) (ready : IsReady basis) (asks : IsAsked basis asked) (known : Known) (are : IsKnown basis asked known) where
+module _ (basis : Basis) (asked : AskedOrder) (ready : IsReady basis) (asks : IsAsked basis asked) (known : Known) (are : IsKnown basis asked known) where
   abbrev roots_of : List ℕ
   roots_of = known.trees.now.ties.roots.items
 

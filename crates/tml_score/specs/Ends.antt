@@ -5,9 +5,9 @@ use Rattle.tml_score.specs.declared.ends.End.{End}
 use Rattle.tml_score.specs.declared.ends.End.TheVariants.{From, To}
 
 -- the point at an end of an order
-abbrev pub end_of : End → Order → ℕ
-end_of From order = order.atom.from
-end_of To order = order.atom.to
+abbrev pub point_at_end : End → Order → ℕ
+point_at_end From order = order.atom.from
+point_at_end To order = order.atom.to
 
 -- the point at the other end
 abbrev pub far_end_of : End → Order → ℕ

@@ -8,7 +8,7 @@ use Rattle.net_core.specs.Atoms.{atoms_of}
 use Rattle.net_core.specs.Nets.{PlainNet, link_at, points}
 use Rattle.net_core.specs.declared.atom.Atom.{Atom}
 use Rattle.point_index.specs.Index.{PlainIndex}
-use Rattle.tml_score.specs.Ends.{end_of}
+use Rattle.tml_score.specs.Ends.{point_at_end}
 use Rattle.tml_score.specs.declared.ends.End.{End}
 use Rattle.tml_score.specs.declared.ends.End.TheVariants.{From, To}
 use Rattle.tml_score.specs.declared.graph.Graph.{Graph}
@@ -18,16 +18,16 @@ abbrev pub link_atoms : PlainNet → ℕ → List Atom
 link_atoms net k = let link = link_at net k in atoms_of link.a link.rel link.b
 
 -- the order is one of some that are of no link
-abbrev pub IsFixed : List Atom → Order → Type 0
-IsFixed fixed order = (order.link ≡ None) × Contains fixed order.atom
+abbrev pub IsFixedOrder : List Atom → Order → Type 0
+IsFixedOrder fixed order = (order.link ≡ None) × Contains fixed order.atom
 
 -- the order is one of those of link k
-abbrev pub IsOfLink : PlainNet → ℕ → Order → Type 0
-IsOfLink net k order = (order.link ≡ Some k) × Contains (link_atoms net k) order.atom
+abbrev pub IsOrderOfLink : PlainNet → ℕ → Order → Type 0
+IsOrderOfLink net k order = (order.link ≡ Some k) × Contains (link_atoms net k) order.atom
 
 -- the order is one of those of some link
 abbrev pub IsOfSome : PlainNet → Order → Type 0
-IsOfSome net order = (k : ℕ) × (k < length net.links) × IsOfLink net k order
+IsOfSome net order = (k : ℕ) × (k < length net.links) × IsOrderOfLink net k order
 
 -- whether an order counts: it is of no link, or of one that passes a test
 abbrev pub counts : (ℕ → Bool) → Option ℕ → Bool
@@ -35,18 +35,18 @@ counts test None = true
 counts test (Some k) = test k
 
 -- the new list has the old orders, and those of a set
-abbrev pub Adds : (Order → Type 0) → List Order → List Order → Type 0
-Adds Listed old new = (order : Order) → Contains new order ↔ (Contains old order ⊎ Listed order)
+abbrev pub AddsOrders : (Order → Type 0) → List Order → List Order → Type 0
+AddsOrders Listed old new = (order : Order) → Contains new order ↔ (Contains old order ⊎ Listed order)
 
 -- the list has the orders that are of no link, and those of each link
-abbrev pub AreAll : PlainNet → List Atom → List Order → Type 0
-AreAll net fixed orders = (order : Order) → Contains orders order ↔ (IsFixed fixed order ⊎ IsOfSome net order)
+abbrev pub HasAllOrders : PlainNet → List Atom → List Order → Type 0
+HasAllOrders net fixed orders = (order : Order) → Contains orders order ↔ (IsFixedOrder fixed order ⊎ IsOfSome net order)
 
 -- all orders of a net
 pub record AreAllOrders (net : PlainNet) (orders : List Order) : Type 0 where
   pub fixed : List Atom
   pub are_fixed : AreFixed net fixed
-  pub all : AreAll net fixed orders
+  pub all : HasAllOrders net fixed orders
 
 -- the orders of a graph by the point at an end
 abbrev pub by_end : End → Graph → PlainIndex Order End
@@ -55,7 +55,7 @@ by_end To graph = graph.back
 
 -- the orders that have a point at the end that they are indexed by
 abbrev pub AreOfPoint : PlainIndex Order End → ℕ → List Order → Type 0
-AreOfPoint index point orders = (order : Order) → Contains orders order ↔ (Contains index.items order × (end_of index.by order ≡ point))
+AreOfPoint index point orders = (order : Order) → Contains orders order ↔ (Contains index.items order × (point_at_end index.by order ≡ point))
 
 -- all orders of a net by the points that they leave, and by those that they lead to
 pub record IsGraphOf (net : PlainNet) (graph : Graph) : Type 0 where

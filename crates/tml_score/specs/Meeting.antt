@@ -8,22 +8,22 @@ use Rattle.lists.specs.declared.memory.Memory.{Memory}
 use Rattle.order_closure.specs.Tables.{cell_at}
 use Rattle.order_closure.specs.declared.cell.Cell.TheVariants.{Free}
 use Rattle.tml_score.specs.Reached.{PlainReached}
-use Rattle.tml_score.specs.Ends.{end_of, far_end_of, opposite}
-use Rattle.tml_score.specs.Search.{Basis, Extends, IsLed, IsWay, Rest}
+use Rattle.tml_score.specs.Ends.{point_at_end, far_end_of, opposite}
+use Rattle.tml_score.specs.Search.{Basis, ExtendsReached, IsLed, IsRemainingWay, Rest}
 use Rattle.tml_score.specs.declared.ends.End.{End}
 use Rattle.tml_score.specs.declared.ends.End.TheVariants.{From, To}
-use Rattle.tml_score.specs.declared.search.Asked.{Asked}
+use Rattle.tml_score.specs.declared.search.AskedOrder.{AskedOrder}
 
 -- the last point is no earlier than this one, by the other links
-abbrev pub IsLedTo : Basis → Asked → ℕ → Type 0
+abbrev pub IsLedTo : Basis → AskedOrder → ℕ → Type 0
 IsLedTo basis asked x = AlwaysWith basis.net (Rest basis asked) false x asked.order.to
 
 -- the closure puts a point at one place with the first
-abbrev pub IsWith : Basis → Asked → ℕ → Type 0
+abbrev pub IsWith : Basis → AskedOrder → ℕ → Type 0
 IsWith basis asked x = (cell_at basis.table x asked.order.from ≢ Free) × (cell_at basis.table asked.order.from x ≢ Free)
 
 -- what is true of the points of a side: where the search goes on that they are no earlier than the first, and where it goes back that they are no later than the last
-abbrev pub IsOn : End → Basis → Asked → ℕ → Type 0
+abbrev pub IsOn : End → Basis → AskedOrder → ℕ → Type 0
 IsOn From = IsLed
 IsOn To = IsLedTo
 
@@ -33,23 +33,23 @@ pub record IsSide (basis : Basis) (IsTrue : ℕ → Type 0) (reached : PlainReac
   pub all : All IsTrue reached.points
 
 -- no point is on both sides
-abbrev pub AreApart : PlainReached → PlainReached → Type 0
-AreApart own other = (x : ℕ) → Contains own.points x → Contains other.points x → ⊥
+abbrev pub ShareNoPoint : PlainReached → PlainReached → Type 0
+ShareNoPoint own other = (x : ℕ) → Contains own.points x → Contains other.points x → ⊥
 
 -- a point is on a side, or not at one place with the first
-abbrev pub IsPassedAt : Basis → Asked → List ℕ → ℕ → Type 0
+abbrev pub IsPassedAt : Basis → AskedOrder → List ℕ → ℕ → Type 0
 IsPassedAt basis asked xs x = Contains xs x ⊎ (IsWith basis asked x → ⊥)
 
 -- a point is on the other side, or it is passed and at most it was added
-abbrev pub Visits : Basis → Asked → ℕ → PlainReached → PlainReached → PlainReached → Result Bool Memory → Type 0
-Visits basis asked x other old new (Ok true) = Contains other.points x × (new ≡ old)
-Visits basis asked x other old new (Ok false) =
+abbrev pub VisitsPoint : Basis → AskedOrder → ℕ → PlainReached → PlainReached → PlainReached → Result Bool Memory → Type 0
+VisitsPoint basis asked x other old new (Ok true) = Contains other.points x × (new ≡ old)
+VisitsPoint basis asked x other old new (Ok false) =
     ((new ≡ old) ⊎ (new ≡ record { points = old.points ++ x ∷ []; room = old.room })) × IsPassedAt basis asked new.points x × (Contains other.points x → ⊥)
-Visits basis asked x other old new (Err e) = ⊤
+VisitsPoint basis asked x other old new (Err e) = ⊤
 
 -- a side went on from a point: to one of which the same is true as of the other side, or all ways from there are passed
-abbrev pub GoesFrom : Basis → Asked → End → ℕ → PlainReached → PlainReached → PlainReached → Result Bool Memory → Type 0
+abbrev pub GoesFrom : Basis → AskedOrder → End → ℕ → PlainReached → PlainReached → PlainReached → Result Bool Memory → Type 0
 GoesFrom basis asked near x other old new (Ok true) = IsSide basis (IsOn near basis asked) new × ((y : ℕ) × IsOn near basis asked y × IsOn (opposite near) basis asked y)
 GoesFrom basis asked near x other old new (Ok false) =
-    IsSide basis (IsOn near basis asked) new × Extends old new × AreApart new other × ((o : Order) → IsWay basis asked o → end_of near o ≡ x → IsPassedAt basis asked new.points (far_end_of near o))
+    IsSide basis (IsOn near basis asked) new × ExtendsReached old new × ShareNoPoint new other × ((o : Order) → IsRemainingWay basis asked o → point_at_end near o ≡ x → IsPassedAt basis asked new.points (far_end_of near o))
 GoesFrom basis asked near x other old new (Err e) = ⊤

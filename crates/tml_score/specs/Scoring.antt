@@ -10,8 +10,8 @@ use Rattle.tml_score.specs.declared.scoring.Annotated.{Annotated}
 abbrev pub annotation_of : Annotated → Annotation
 annotation_of a = record { contents = a.document.now; net = a.net.now }
 
-abbrev pub table_of : Annotated → Table
-table_of a = a.table.now
+abbrev pub annotated_table : Annotated → Table
+annotated_table a = a.table.now
 
 -- the number of the interval of another document that has the name of interval i, or none where there is none
 abbrev pub IsPartner : List PlainInterval → List PlainInterval → ℕ → Option ℕ → Type 0
@@ -26,8 +26,8 @@ pub record ArePartners (own other : List PlainInterval) (partners : List (Option
   pub each : (i : ℕ) → i < length own → IsPartner own other i (partner_at partners i)
 
 -- the partners are intervals whose points are below n
-abbrev pub AreWithin : ℕ → List (Option ℕ) → Type 0
-AreWithin n partners = (i : ℕ) (j : ℕ) → partner_at partners i ≡ Some j → 2 * j + 1 < n
+abbrev pub ArePartnersWithin : ℕ → List (Option ℕ) → Type 0
+ArePartnersWithin n partners = (i : ℕ) (j : ℕ) → partner_at partners i ≡ Some j → 2 * j + 1 < n
 
 -- both intervals of a link have partners, between which the table entails its relation
 abbrev pub EntailsBetween : Table → List (Option ℕ) → NetLink → Type 0

@@ -1,5 +1,5 @@
 -- Serves the code: ties: orders of points that are at one place.
-use Rattle.std.specs.Prelude.{◌≡◌, ℕ, ◌<◌, List, length}
+use Rattle.std.specs.Prelude.{◌≡◌, List, length}
 use Rattle.std.specs.List.{All, Contains}
 use Rattle.net_orders.specs.declared.orders.Order.{Order}
 use Rattle.net_core.specs.Nets.{points}
@@ -15,10 +15,6 @@ AreOrders basis orders = All (Contains basis.graph.onward.items) orders
 -- orders of the net, by a point of it
 abbrev pub AreOrdersBy : Basis → PlainIndex Order End → Type 0
 AreOrdersBy basis by = AreOrders basis by.items × (by.points ≡ points basis.net)
-
--- numbers of points
-abbrev pub ArePoints : ℕ → List ℕ → Type 0
-ArePoints n met = All (λ (point : ℕ). point < n) met
 
 -- The ties are orders of the net, and each point of it has a root. Nothing else rests on which orders they are, and on which roots.
 pub record AreTies (basis : Basis) (ties : Ties) : Type 0 where

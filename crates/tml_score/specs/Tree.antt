@@ -6,7 +6,7 @@ use Rattle.net_orders.specs.declared.orders.Order.{Order}
 use Rattle.net_core.specs.Atoms.{Satisfies}
 use Rattle.net_core.specs.Nets.{points}
 use Rattle.net_core.specs.Relations.{Timeline}
-use Rattle.tml_score.specs.Ends.{end_of, far_end_of}
+use Rattle.tml_score.specs.Ends.{point_at_end, far_end_of}
 use Rattle.tml_score.specs.Graph.{counts}
 use Rattle.tml_score.specs.Search.{Basis, is_kept}
 use Rattle.tml_score.specs.declared.ends.End.{End}
@@ -62,8 +62,8 @@ IsBefore link tree n = (basis : Basis) (roots : List ℕ) (near : End) → IsTre
 
 -- A kept order leads from a point that is covered to another one of its place.
 pub record LeadsOn (basis : Basis) (roots : List ℕ) (tree : Tree) (o : Order) : Type 0 where
-  pub covered : IsCovered roots tree (length tree.orders.items) (end_of tree.near o)
-  pub one_root : slice_index roots (end_of tree.near o) ≡ slice_index roots (far_end_of tree.near o)
+  pub covered : IsCovered roots tree (length tree.orders.items) (point_at_end tree.near o)
+  pub one_root : slice_index roots (point_at_end tree.near o) ≡ slice_index roots (far_end_of tree.near o)
   pub kept : is_kept basis o ≡ true
 
 -- the marks of links in use, with that of an order

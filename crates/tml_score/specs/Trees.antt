@@ -5,7 +5,7 @@ use Rattle.tml_score.specs.Search.{Basis}
 use Rattle.tml_score.specs.Ties.{AreTies}
 use Rattle.tml_score.specs.Tree.{IsBefore, IsCovered, IsTree, without}
 use Rattle.tml_score.specs.declared.ends.End.TheVariants.{From, To}
-use Rattle.tml_score.specs.declared.search.Asked.{Asked}
+use Rattle.tml_score.specs.declared.search.AskedOrder.{AskedOrder}
 use Rattle.tml_score.specs.declared.trees.Known.{Known}
 use Rattle.tml_score.specs.declared.trees.Trees.{Trees}
 
@@ -23,7 +23,7 @@ abbrev pub AreCut : ℕ → Trees → Trees → Type 0
 AreCut link old new = (basis : Basis) → AreTrees basis old → AreTrees (without basis link) new
 
 -- What the trees show beside a link: their orders before those of the link, and whether these lead back from the first point that is asked for, and onward to the last.
-pub record IsKnown (basis : Basis) (asked : Asked) (known : Known) : Type 0 where
+pub record IsKnown (basis : Basis) (asked : AskedOrder) (known : Known) : Type 0 where
   pub trees : AreTrees basis known.trees.now
   pub onward : IsBefore asked.link known.trees.now.onward known.onward
   pub back : IsBefore asked.link known.trees.now.back known.back

@@ -31,9 +31,9 @@ impl End {
 }
 
 impl PointOf<Order> for End {
-    ghost use Rattle.tml_score.specs.Ends.{end_of};
+    ghost use Rattle.tml_score.specs.Ends.{point_at_end};
 
-    ghost point_of = { end_of };
+    ghost point_of = { point_at_end };
 
     fn point(self, order: &Order) -> u32 {
         match self {

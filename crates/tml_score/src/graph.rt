@@ -1,6 +1,6 @@
 //! The orders of a net, by the points that they leave and those that they lead to.
 ghost use Rattle.std.specs.Prelude.{IfOk, OnOk, length, ◌<◌, ◌≡◌};
-ghost use Rattle.tml_score.specs.Graph.{Adds, AreOfPoint, AreAllOrders, IsFixed, IsGraphOf, IsOfLink, IsOfSome, by_end};
+ghost use Rattle.tml_score.specs.Graph.{AddsOrders, AreOfPoint, AreAllOrders, IsFixedOrder, IsGraphOf, IsOrderOfLink, IsOfSome, by_end};
 
 use crate::ends::{End, by_point};
 use net_core::{Atom, Memory, Net};
@@ -58,7 +58,7 @@ fn orders_of(alloc: Global, net: &Net) -> Result<Vec<Order>, Memory>
 
 /// Appends orders that are of no link.
 fn push_fixed(orders: &mut Vec<Order>, fixed: &[Atom]) -> Result<(), Memory>
-    ensures { OnOk result (Adds (IsFixed fixed.now) orders.old.items orders.new.items) }
+    ensures { OnOk result (AddsOrders (IsFixedOrder fixed.now) orders.old.items orders.new.items) }
 {
     for atom in fixed {
         push_order(orders, *atom, None)?;
@@ -68,7 +68,7 @@ fn push_fixed(orders: &mut Vec<Order>, fixed: &[Atom]) -> Result<(), Memory>
 
 /// Appends the orders of all links.
 fn push_links(orders: &mut Vec<Order>, net: &Net) -> Result<(), Memory>
-    ensures { OnOk result (Adds (IsOfSome net.now) orders.old.items orders.new.items) }
+    ensures { OnOk result (AddsOrders (IsOfSome net.now) orders.old.items orders.new.items) }
 {
     for link in 0..net.links() {
         push_link(orders, net, link)?;
@@ -79,7 +79,7 @@ fn push_links(orders: &mut Vec<Order>, net: &Net) -> Result<(), Memory>
 /// Appends the orders of a link.
 fn push_link(orders: &mut Vec<Order>, net: &Net, link: u32) -> Result<(), Memory>
     requires { link < length net.now.links }
-    ensures { OnOk result (Adds (IsOfLink net.now link) orders.old.items orders.new.items) }
+    ensures { OnOk result (AddsOrders (IsOrderOfLink net.now link) orders.old.items orders.new.items) }
 {
     let atoms = atoms_of_link(net, link);
     for number in 0..atoms.count() {
@@ -90,7 +90,7 @@ fn push_link(orders: &mut Vec<Order>, net: &Net, link: u32) -> Result<(), Memory
 
 /// Appends an order.
 fn push_order(orders: &mut Vec<Order>, atom: Atom, link: Option<u32>) -> Result<(), Memory>
-    ensures { OnOk result (Adds (λ order. order ≡ record { atom = atom; link = link }) orders.old.items orders.new.items) }
+    ensures { OnOk result (AddsOrders (λ order. order ≡ record { atom = atom; link = link }) orders.old.items orders.new.items) }
 {
     match orders.push(Order { atom, link }) {
         Ok(()) => Ok(()),

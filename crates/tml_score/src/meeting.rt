@@ -3,13 +3,13 @@ ghost use Rattle.net_core.specs.Nets.{points};
 ghost use Rattle.order_closure.specs.Tables.{cell_at};
 ghost use Rattle.std.specs.Prelude.{IfOk, IsTrue, OnOk, false, length, slice_index, ◌<◌, ◌≡◌, ◌≢◌, ◌↔◌};
 ghost use Rattle.tml_score.specs.Ends.{opposite};
-ghost use Rattle.tml_score.specs.Meeting.{AreApart, GoesFrom, IsOn, IsSide, IsWith, Visits};
+ghost use Rattle.tml_score.specs.Meeting.{ShareNoPoint, GoesFrom, IsOn, IsSide, IsWith, VisitsPoint};
 ghost use Rattle.tml_score.specs.Search.{Decides, IsAsked, IsReady, basis_of};
 ghost use Rattle.tml_score.specs.Trees.{IsKnown};
 
 use crate::ends::End;
-use crate::reached::Reached;
-use crate::search::{Asked, KeptLinks};
+use crate::reached::ReachedPoints;
+use crate::search::{AskedOrder, KeptLinks};
 use crate::trees::Known;
 use net_core::Memory;
 use order_closure::Cell;
@@ -24,10 +24,10 @@ impl KeptLinks<'_> {
     /// Out of memory.
     pub fn meets(
         &self,
-        asked: Asked,
+        asked: AskedOrder,
         known: &Known<'_>,
-        onward: &mut Reached,
-        back: &mut Reached,
+        onward: &mut ReachedPoints,
+        back: &mut ReachedPoints,
     ) -> Result<bool, Memory>
         requires ready { IsReady (basis_of self.now) }
         requires asked { IsAsked (basis_of self.now) asked }
@@ -63,11 +63,11 @@ impl KeptLinks<'_> {
     /// where one of these is on the other side, or the trees join it with that side.
     fn spread_side(
         &self,
-        asked: Asked,
+        asked: AskedOrder,
         known: &Known<'_>,
         near: End,
-        own: &mut Reached,
-        other: &Reached,
+        own: &mut ReachedPoints,
+        other: &ReachedPoints,
         turn: usize,
     ) -> Result<bool, Memory>
         requires ready { IsReady (basis_of self.now) }
@@ -75,7 +75,7 @@ impl KeptLinks<'_> {
         requires known { IsKnown (basis_of self.now) asked known.now }
         requires own { IsSide (basis_of self.now) (IsOn near (basis_of self.now) asked) own.old }
         requires other { IsSide (basis_of self.now) (IsOn (opposite near) (basis_of self.now) asked) other.now }
-        requires apart { AreApart own.old other.now }
+        requires apart { ShareNoPoint own.old other.now }
         requires turn { turn < length own.old.points }
         ensures { GoesFrom (basis_of self.now) asked near (slice_index own.old.points turn) other.now own.old own.new result }
     {
@@ -97,16 +97,16 @@ impl KeptLinks<'_> {
     /// Comes to a point. True comes where it is on the other side.
     fn visit(
         &self,
-        asked: Asked,
+        asked: AskedOrder,
         point: u32,
-        own: &mut Reached,
-        other: &Reached,
+        own: &mut ReachedPoints,
+        other: &ReachedPoints,
     ) -> Result<bool, Memory>
         requires first { asked.order.from < self.now.table.now.points }
         requires point { point < self.now.table.now.points }
         requires own { own.old.room ≡ self.now.table.now.points }
         requires other { other.now.room ≡ self.now.table.now.points }
-        ensures { Visits (basis_of self.now) asked point other.now own.old own.new result }
+        ensures { VisitsPoint (basis_of self.now) asked point other.now own.old own.new result }
     {
         if other.has(point) {
             return Ok(true);
@@ -118,7 +118,7 @@ impl KeptLinks<'_> {
     }
 
     /// Whether the closure puts a point at one place with the first of an order.
-    fn is_with(&self, asked: Asked, point: u32) -> bool
+    fn is_with(&self, asked: AskedOrder, point: u32) -> bool
         requires first { asked.order.from < self.now.table.now.points }
         requires point { point < self.now.table.now.points }
         ensures { IsTrue result ↔ IsWith (basis_of self.now) asked point }

@@ -10,12 +10,12 @@ use std::marker::Model;
 /// The points that a search has reached, of as many as there can be. What is left of an earlier search is never looked
 /// at: a point was reached where the place that stands for it has this point, so nothing is cleared between searches.
 #[derive(Drop)]
-pub struct Reached {
+pub struct ReachedPoints {
     points: Vec<u32>,
     places: Vec<u32>,
 }
 
-impl Model for Reached {
+impl Model for ReachedPoints {
     ghost use Rattle.std.specs.Prelude.{length};
     ghost use Rattle.tml_score.specs.Reached.{StandAtPlaces, PlainReached};
 
@@ -26,20 +26,20 @@ impl Model for Reached {
     ghost invariant = { λ a. StandAtPlaces a.points.items a.places.items };
 }
 
-impl Reached {
+impl ReachedPoints {
     /// No points yet, of this number.
     ///
     /// # Errors
     ///
     /// Out of memory.
-    pub fn new(alloc: Global, room: u32) -> Result<Reached, Memory>
+    pub fn new(alloc: Global, room: u32) -> Result<ReachedPoints, Memory>
         requires { room ≤ max_points }
         ensures { IfOk result (λ reached. reached ≡ record { points = []; room = room }) }
     {
         let Ok(places) = vec![in alloc; 0; room as usize] else {
             return Err(Memory);
         };
-        Ok(Reached {
+        Ok(ReachedPoints {
             points: Vec::new(alloc),
             places,
         })
@@ -104,6 +104,6 @@ impl Reached {
 /// The points that a search has reached from its first point on, and from its last one back.
 #[derive(Drop)]
 pub struct Sides {
-    pub onward: Reached,
-    pub back: Reached,
+    pub onward: ReachedPoints,
+    pub back: ReachedPoints,
 }

@@ -10,8 +10,8 @@ ghost use Rattle.tml_score.specs.Search.{Decides, HaveRoom, IsAsked, IsReady, ba
 ghost use Rattle.tml_score.specs.Trees.{AreTrees};
 
 use crate::graph::Graph;
-use crate::reached::{Reached, Sides};
-use crate::search::{Asked, KeptLinks};
+use crate::reached::{ReachedPoints, Sides};
+use crate::search::{AskedOrder, KeptLinks};
 use crate::trees::Trees;
 use clash::{CloseFault, close, marked};
 use net_core::{List, Memory, Net};
@@ -63,8 +63,8 @@ fn marks(alloc: Global, net: &Net, table: &Closed, graph: &Graph) -> Result<Vec<
         return Err(Memory);
     };
     let mut sides = Sides {
-        onward: Reached::new(alloc, table.points())?,
-        back: Reached::new(alloc, table.points())?,
+        onward: ReachedPoints::new(alloc, table.points())?,
+        back: ReachedPoints::new(alloc, table.points())?,
     };
     let all = KeptLinks {
         net,
@@ -108,7 +108,7 @@ fn link_follows(
     let atoms = atoms_of_link(kept.net, link);
     for number in 0..atoms.count() {
         let order = nth_order(&atoms, number);
-        if !order_follows(kept, Asked { link, order }, trees, sides)? {
+        if !order_follows(kept, AskedOrder { link, order }, trees, sides)? {
             return Ok(false);
         }
     }
@@ -118,7 +118,7 @@ fn link_follows(
 /// Whether an order of a link follows from the others that are kept, by what the trees show and a search.
 fn order_follows(
     kept: &KeptLinks<'_>,
-    asked: Asked,
+    asked: AskedOrder,
     trees: &mut Trees,
     sides: &mut Sides,
 ) -> Result<bool, Memory>

@@ -2,7 +2,7 @@
 ghost use Rattle.std.specs.Prelude.{IfOk, IsTrue, length, ◌<◌, ◌≡◌, ◌↔◌};
 ghost use Rattle.tml_refs.specs.Documents.{IsDocument};
 ghost use Rattle.tml_score.specs.Scores.{AreMatched, AreScores, IsClosedOf};
-ghost use Rattle.tml_score.specs.Scoring.{ArePartners, AreWithin, EntailsBetween, annotation_of, table_of};
+ghost use Rattle.tml_score.specs.Scoring.{ArePartners, ArePartnersWithin, EntailsBetween, annotation_of, annotated_table};
 
 use crate::reducing::reduced_by;
 use derive_rel::entailed;
@@ -76,8 +76,8 @@ pub fn score(
 
 /// How many links of an annotation stay, and how many of these follow in another one.
 fn matched(alloc: Global, own: Annotated<'_, '_>, other: Annotated<'_, '_>) -> Result<Tally, Memory>
-    requires own { IsClosedOf (annotation_of own) (table_of own) }
-    requires other { IsClosedOf (annotation_of other) (table_of other) }
+    requires own { IsClosedOf (annotation_of own) (annotated_table own) }
+    requires other { IsClosedOf (annotation_of other) (annotated_table other) }
     ensures { IfOk result (λ found. AreMatched (annotation_of own.entry) (annotation_of other.entry) found.links found.matched) }
 {
     // so few that the counts fit
@@ -121,7 +121,7 @@ fn partners_in(
 fn follows_between(table: &Closed, partners: &[Option<u32>], link: NetLink) -> bool
     requires a { link.a < length partners.now }
     requires b { link.b < length partners.now }
-    requires partners { AreWithin table.now.points partners.now }
+    requires partners { ArePartnersWithin table.now.points partners.now }
     ensures { IsTrue result ↔ EntailsBetween table.now partners.now link }
 {
     match (partners[link.a as usize], partners[link.b as usize]) {

@@ -2,11 +2,11 @@
 ghost use Rattle.net_core.specs.Nets.{points};
 ghost use Rattle.std.specs.Prelude.{IfOk, IsTrue, OnOk, length, slice_index, true, ◌<◌, ◌≡◌, ◌≢◌, ◌↔◌};
 ghost use Rattle.tml_score.specs.Search as spec;
-ghost use Rattle.tml_score.specs.Search.{Decides, GoesOn, HaveRoom, IsAsked, IsReady, IsSearch, IsWay, IsLed, basis_of};
+ghost use Rattle.tml_score.specs.Search.{Decides, GoesOn, HaveRoom, IsAsked, IsReady, IsSearch, IsRemainingWay, IsLed, basis_of};
 ghost use Rattle.tml_score.specs.Trees.{IsKnown};
 
 use crate::graph::Graph;
-use crate::reached::{Reached, Sides};
+use crate::reached::{ReachedPoints, Sides};
 use crate::trees::Known;
 use net_core::{Atom, Memory, Net};
 use net_orders::Order;
@@ -23,7 +23,7 @@ pub struct KeptLinks<'a> {
 
 /// An order of a link that is kept.
 #[derive(Clone, Copy)]
-pub struct Asked {
+pub struct AskedOrder {
     pub link: u32,
     pub order: Atom,
 }
@@ -36,7 +36,7 @@ impl KeptLinks<'_> {
     /// Out of memory.
     pub fn follows(
         &self,
-        asked: Asked,
+        asked: AskedOrder,
         known: &Known<'_>,
         sides: &mut Sides,
     ) -> Result<bool, Memory>
@@ -62,7 +62,7 @@ impl KeptLinks<'_> {
     /// at one place with the first in every timeline. An order to the last point or to a later one leads out. There the
     /// search ends, since what the closure says of that point and the last one is true without the link: a way that goes
     /// over the link would lead back to a point no later than the first.
-    fn leads(&self, asked: Asked, reached: &mut Reached) -> Result<bool, Memory>
+    fn leads(&self, asked: AskedOrder, reached: &mut ReachedPoints) -> Result<bool, Memory>
         requires ready { IsReady (basis_of self.now) }
         requires asked { IsAsked (basis_of self.now) asked }
         requires apart { asked.order.from ≢ asked.order.to }
@@ -82,7 +82,12 @@ impl KeptLinks<'_> {
     }
 
     /// Goes on over the orders that leave the point of this turn. True comes where one of them is enough.
-    fn spread(&self, asked: Asked, reached: &mut Reached, turn: usize) -> Result<bool, Memory>
+    fn spread(
+        &self,
+        asked: AskedOrder,
+        reached: &mut ReachedPoints,
+        turn: usize,
+    ) -> Result<bool, Memory>
         requires ready { IsReady (basis_of self.now) }
         requires asked { IsAsked (basis_of self.now) asked }
         requires search { IsSearch (basis_of self.now) asked reached.old }
@@ -99,7 +104,7 @@ impl KeptLinks<'_> {
     }
 
     /// Whether an order is of no link, or of another one that is kept.
-    pub fn remains(&self, asked: Asked, order: &Order) -> bool
+    pub fn remains(&self, asked: AskedOrder, order: &Order) -> bool
         requires { spec.AreMarks (basis_of self.now) order.now }
         ensures { result ≡ spec.remains (basis_of self.now) asked order.now }
     {
@@ -121,11 +126,16 @@ impl KeptLinks<'_> {
     }
 
     /// Goes over an order that remains. True comes where it is enough.
-    fn take(&self, asked: Asked, order: &Order, reached: &mut Reached) -> Result<bool, Memory>
+    fn take(
+        &self,
+        asked: AskedOrder,
+        order: &Order,
+        reached: &mut ReachedPoints,
+    ) -> Result<bool, Memory>
         requires ready { IsReady (basis_of self.now) }
         requires asked { IsAsked (basis_of self.now) asked }
         requires search { IsSearch (basis_of self.now) asked reached.old }
-        requires way { IsWay (basis_of self.now) asked order.now }
+        requires way { IsRemainingWay (basis_of self.now) asked order.now }
         requires led { IsLed (basis_of self.now) asked order.now.atom.from }
         ensures { GoesOn (basis_of self.now) asked (λ o. o ≡ order.now) reached.old reached.new result }
     {
@@ -140,7 +150,7 @@ impl KeptLinks<'_> {
     }
 
     /// Whether an order leads to the last point, or to one that the closure doesn't put at or before the first.
-    fn leads_out(&self, asked: Asked, order: &Order) -> bool
+    fn leads_out(&self, asked: AskedOrder, order: &Order) -> bool
         requires to { order.now.atom.to < self.now.table.now.points }
         requires first { asked.order.from < self.now.table.now.points }
         ensures { IsTrue result ↔ spec.LeadsOut (basis_of self.now) asked order.now }
@@ -150,7 +160,7 @@ impl KeptLinks<'_> {
     }
 
     /// Whether the closure gives the order that is asked for, from where an order leads out.
-    fn is_enough(&self, asked: Asked, order: &Order) -> bool
+    fn is_enough(&self, asked: AskedOrder, order: &Order) -> bool
         requires to { order.now.atom.to < self.now.table.now.points }
         requires last { asked.order.to < self.now.table.now.points }
         requires out { spec.LeadsOut (basis_of self.now) asked order.now }

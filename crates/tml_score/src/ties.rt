@@ -2,7 +2,8 @@
 ghost use Rattle.net_core.specs.Nets.{points};
 ghost use Rattle.std.specs.Prelude.{IfOk, OnOk, length, slice_index, ◌<◌, ◌≡◌};
 ghost use Rattle.tml_score.specs.Search.{IsReady, basis_of};
-ghost use Rattle.tml_score.specs.Ties.{AreOrders, AreOrdersBy, ArePoints, AreTies};
+ghost use Rattle.net_orders.specs.Sequence.{ArePoints};
+ghost use Rattle.tml_score.specs.Ties.{AreOrders, AreOrdersBy, AreTies};
 
 use crate::ends::{End, by_point};
 use crate::search::KeptLinks;

@@ -8,7 +8,7 @@ ghost use Rattle.tml_score.specs.Search.{IsAsked, IsLed, IsReady, basis_of};
 ghost use Rattle.tml_score.specs.Trees.{AreCut, AreTrees, IsKnown, StayTrees};
 
 use crate::ends::End;
-use crate::search::{Asked, KeptLinks};
+use crate::search::{AskedOrder, KeptLinks};
 use crate::ties::Ties;
 use crate::tree::Tree;
 use net_core::Memory;
@@ -68,7 +68,7 @@ impl Trees {
     }
 
     /// What the trees show beside the link that an order is of.
-    pub fn known(&self, kept: &KeptLinks<'_>, asked: Asked) -> Known<'_>
+    pub fn known(&self, kept: &KeptLinks<'_>, asked: AskedOrder) -> Known<'_>
         requires ready { IsReady (basis_of kept.now) }
         requires asked { IsAsked (basis_of kept.now) asked }
         requires trees { AreTrees (basis_of kept.now) self.now }
@@ -117,7 +117,7 @@ pub struct Known<'a> {
 impl Known<'_> {
     /// Whether they join a point with the other side: show that it is no later than the last one of the order where the search
     /// goes on, and no earlier than the first one where it goes back.
-    pub fn joins(&self, kept: &KeptLinks<'_>, asked: Asked, near: End, point: u32) -> bool
+    pub fn joins(&self, kept: &KeptLinks<'_>, asked: AskedOrder, near: End, point: u32) -> bool
         requires ready { IsReady (basis_of kept.now) }
         requires asked { IsAsked (basis_of kept.now) asked }
         requires known { IsKnown (basis_of kept.now) asked self.now }
@@ -131,7 +131,7 @@ impl Known<'_> {
     }
 
     /// Whether they show that a point is no earlier than the first one of the order.
-    fn comes_after(&self, kept: &KeptLinks<'_>, asked: Asked, point: u32) -> bool
+    fn comes_after(&self, kept: &KeptLinks<'_>, asked: AskedOrder, point: u32) -> bool
         requires ready { IsReady (basis_of kept.now) }
         requires asked { IsAsked (basis_of kept.now) asked }
         requires known { IsKnown (basis_of kept.now) asked self.now }
@@ -146,7 +146,7 @@ impl Known<'_> {
     }
 
     /// Whether they show that a point is no later than the last one of the order.
-    pub fn comes_before(&self, kept: &KeptLinks<'_>, asked: Asked, point: u32) -> bool
+    pub fn comes_before(&self, kept: &KeptLinks<'_>, asked: AskedOrder, point: u32) -> bool
         requires ready { IsReady (basis_of kept.now) }
         requires asked { IsAsked (basis_of kept.now) asked }
         requires known { IsKnown (basis_of kept.now) asked self.now }

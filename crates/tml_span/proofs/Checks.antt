@@ -2,7 +2,7 @@
 use Rattle.std.proofs.Common.{◌≡◌, inl, inr, ℕ, ◌+◌, ◌-◌, Bool, true, false, List, [], ◌∷◌, ◌++◌, length, map, refl, sym, subst, append_assoc, append-nil, arith, Option, Some, None}
 use Rattle.std.proofs.lemmas.List.{map-append}
 use Rattle.tml_span.specs.Cutting.{FindsUnit}
-use Rattle.tml_span.specs.References.{Piece, FollowEachOther, FirstBadIn, IsBadIn, IsLeastPlace, IsWithin, pieces_of, value_piece}
+use Rattle.tml_span.specs.References.{Piece, FollowEachOther, FirstBadIn, IsBadIn, IsLeastPlace, EndsWithinAttribute, pieces_of, value_piece}
 use Rattle.tml_span.specs.Reading.{ReadsAttributes, attribute_at}
 use Rattle.tml_span.specs.Checking.{FirstInOrder}
 use Rattle.tml_span.specs.Units.{Attribute, PlainUnit}
@@ -29,7 +29,7 @@ first_is pieces low high (Some place) f h = subst (λ (ps : List Piece). IsLeast
 
 -- ---- attributes
 
-pub is_within : (place : ℕ) (bytes : List ℕ) (a : Attribute) (rest : List ℕ) → attribute_at place bytes ≡ Some (a, rest) → IsWithin a
+pub is_within : (place : ℕ) (bytes : List ℕ) (a : Attribute) (rest : List ℕ) → attribute_at place bytes ≡ Some (a, rest) → EndsWithinAttribute a
 is_within place bytes a rest e =
     let t = attribute_takes place bytes a rest e in
     omega (arith, value_before_end place a t.0 t.2)

@@ -1,6 +1,6 @@
 -- Where no `&` stands, no reference is bad.
-use Rattle.std.proofs.Common.{◌≡◌, Bool, true, false, refl, ℕ, ◌+◌, ◌-◌, ◌<◌, ◌≤◌, List, [], ◌∷◌, ◌++◌, length, drop, get_or, map, sym, ap, subst, ◌∙◌, inl, inr, arith, length-append}
-use Rattle.std.specs.Prelude.{not, slice_index, slice_range}
+use Rattle.std.proofs.Common.{◌≡◌, ℕ, ◌+◌, ◌-◌, ◌<◌, ◌≤◌, List, [], ◌∷◌, ◌++◌, length, drop, get_or, map, sym, ap, subst, ◌∙◌, inl, inr, arith, length-append}
+use Rattle.std.specs.Prelude.{slice_index, slice_range}
 use Rattle.std.specs.List.{AllByRecursion}
 use Rattle.std.proofs.lemmas.List.{get_or-drop, get_or-take}
 use Rattle.std.proofs.Math.Seq.{get_or-append_seam}
@@ -82,7 +82,3 @@ clear_ahead source rest place n is none k from below e =
     let there : slice_index rest (k - place) ≡ slice_index source k =
     ap (λ (s : List ℕ). get_or s (k - place) 0) is ∙ get_or-drop place source (k - place) 0 ∙ ap (λ (n : ℕ). get_or source n 0) index in
     none (k - place) (omega (arith, from, below)) (there ∙ e)
-
-pub is_false : (b : Bool) → not b ≡ true → b ≡ false
-is_false true e = sym e
-is_false false e = refl

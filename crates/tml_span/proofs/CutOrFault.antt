@@ -12,7 +12,7 @@ use Rattle.named.proofs.Deciding.{by_test, either, least_number, some_number}
 use Rattle.tml_span.specs.Units.{PlainUnit}
 use Rattle.tml_span.specs.Cutting.{Cuts, CutsFrom}
 use Rattle.tml_span.specs.Faults.{CutOrFault, IsNotUtf8}
-use Rattle.tml_span.specs.References.{IsBadAt, Piece, IsBadIn, IsBad, IsLeastPlace, IsNowhere, pieces_of}
+use Rattle.tml_span.specs.References.{IsBadAt, Piece, IsBadIn, IsBadInUnits, IsLeastPlace, IsNowhere, pieces_of}
 use Rattle.tml_span.proofs.EveryCut.{every_cut_from}
 use Rattle.tml_span.proofs.FirstBad.{bad_at_within, bad_here, bad_is, not_begun}
 use Rattle.tml_span.proofs.Referring.{reference_or_not}
@@ -57,7 +57,7 @@ bad_in_or_not (piece ∷ pieces) place = either
     (bad_in_or_not pieces place)
 
 -- a place is bad in one of some units, or not
-bad_or_not : (units : List PlainUnit) (place : ℕ) → Dec (IsBad units place)
+bad_or_not : (units : List PlainUnit) (place : ℕ) → Dec (IsBadInUnits units place)
 bad_or_not [] place = no (λ h. h)
 bad_or_not (u ∷ units) place = either (bad_in_or_not (pieces_of u) place) (bad_or_not units place)
 
@@ -74,7 +74,7 @@ bad_in_below (piece ∷ pieces) =
     )
 
 -- so are those of units
-bad_below : (units : List PlainUnit) → (limit : ℕ) × ((place : ℕ) → IsBad units place → place < limit)
+bad_below : (units : List PlainUnit) → (limit : ℕ) × ((place : ℕ) → IsBadInUnits units place → place < limit)
 bad_below [] = (0, λ place h. absurd h)
 bad_below (u ∷ units) =
     let first = bad_in_below (pieces_of u) in
@@ -86,8 +86,8 @@ bad_below (u ∷ units) =
       ],
     )
 
-first_or_nowhere : (units : List PlainUnit) → ((place : ℕ) × IsLeastPlace (IsBad units) place) ⊎ IsNowhere (IsBad units)
-first_or_nowhere units = let limit = bad_below units in least_number (IsBad units) (bad_or_not units) limit.0 limit.1
+first_or_nowhere : (units : List PlainUnit) → ((place : ℕ) × IsLeastPlace (IsBadInUnits units) place) ⊎ IsNowhere (IsBadInUnits units)
+first_or_nowhere units = let limit = bad_below units in least_number (IsBadInUnits units) (bad_or_not units) limit.0 limit.1
 
 -- ---- a source
 
@@ -97,7 +97,7 @@ rest_within place bytes [] rest c = omega (arith, ap length c.0)
 rest_within place bytes (u ∷ units) rest c = omega (arith, ap length c.2, length-append c.0 c.1, rest_within (place + length c.0) c.1 units rest c.5)
 
 -- a source in whose cut no reference is bad
-whole_or_markup : (source : List ℕ) → IsUtf8 source → (units : List PlainUnit) (rest : List ℕ) → Cuts source units rest → IsNowhere (IsBad units) → CutOrFault source
+whole_or_markup : (source : List ℕ) → IsUtf8 source → (units : List PlainUnit) (rest : List ℕ) → Cuts source units rest → IsNowhere (IsBadInUnits units) → CutOrFault source
 whole_or_markup source utf8 units [] c none = inl (units, (utf8, c, none))
 whole_or_markup source utf8 units (b ∷ rest) c none =
     let within = rest_within 0 source units (b ∷ rest) c in

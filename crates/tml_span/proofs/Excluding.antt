@@ -7,7 +7,7 @@ use Rattle.faults.specs.declared.kind.FaultKind.TheVariants as fault
 use Rattle.tml_span.specs.Units.{PlainUnit}
 use Rattle.tml_span.specs.Cutting.{Cuts}
 use Rattle.tml_span.specs.Faults.{CutFault, IsNotUtf8, HasBadReference, HasBadMarkup, OneFaults}
-use Rattle.tml_span.specs.References.{IsBad, IsLeastPlace}
+use Rattle.tml_span.specs.References.{IsBadInUnits, IsLeastPlace}
 use Rattle.tml_span.specs.Whole.{IsWhole}
 use Rattle.tml_span.proofs.OneCut.{one_cut_from}
 
@@ -27,7 +27,7 @@ whole_or_fault : (source : List ℕ) (units : List PlainUnit) (place : ℕ) (kin
 whole_or_fault source units place fault.NotUtf8 h f = f.0 h.0
 whole_or_fault source units place fault.BadReference h f =
     let same = one_units source f.1 units f.2 [] f.3 h.1 in
-    h.2 place (subst (λ (us : List PlainUnit). IsBad us place) same f.4.0)
+    h.2 place (subst (λ (us : List PlainUnit). IsBadInUnits us place) same f.4.0)
 whole_or_fault source units place fault.BadMarkup h f = f.5 (one_cut_from 0 source f.1 units f.2 [] f.3 h.1).1
 whole_or_fault source units place kind h f = f
 
@@ -35,12 +35,12 @@ whole_or_fault source units place kind h f = f
 reference_or_markup : (source : List ℕ) (place other : ℕ) → HasBadReference source place → HasBadMarkup source other → ⊥
 reference_or_markup source place other f g =
     let same = one_units source f.1 g.1 f.2 g.2 f.3 g.3 in
-    g.4 place (subst (λ (us : List PlainUnit). IsBad us place) same f.4.0)
+    g.4 place (subst (λ (us : List PlainUnit). IsBadInUnits us place) same f.4.0)
 
 one_reference : (source : List ℕ) (place other : ℕ) → HasBadReference source place → HasBadReference source other → place ≡ other
 one_reference source place other f g =
     let same = one_units source f.1 g.1 f.2 g.2 f.3 g.3 in
-    one_first (IsBad g.1) place other (subst (λ (us : List PlainUnit). IsLeastPlace (IsBad us) place) same f.4) g.4
+    one_first (IsBadInUnits g.1) place other (subst (λ (us : List PlainUnit). IsLeastPlace (IsBadInUnits us) place) same f.4) g.4
 
 one_markup : (source : List ℕ) (place other : ℕ) → HasBadMarkup source place → HasBadMarkup source other → place ≡ other
 one_markup source place other f g =

@@ -7,7 +7,7 @@ use Rattle.std.proofs.lemmas.List.{length-map, take-append-drop, take_rest, drop
 use Rattle.memchr.specs.Find.{IsFirstByte, is_byte}
 use Rattle.tml_span.specs.declared.unit.Attr.{Attr}
 use Rattle.tml_span.specs.Units.{PlainUnit}
-use Rattle.tml_span.specs.References.{BeginsReference, IsBadAt, Piece, value_piece, IsBadIn, IsBad, IsLeastPlace, IsNowhere, IsWithin, FollowEachOther}
+use Rattle.tml_span.specs.References.{BeginsReference, IsBadAt, Piece, value_piece, IsBadIn, IsBadInUnits, IsLeastPlace, IsNowhere, EndsWithinAttribute, FollowEachOther}
 use Rattle.tml_span.specs.View.{attribute_of}
 
 -- a bad index is one of the bytes
@@ -190,7 +190,7 @@ value_at (a ∷ attrs) zero d below = refl
 value_at (a ∷ attrs) (suc i) d below = value_at attrs i d (omega arith)
 
 -- the value of the attribute at an index ends before it does
-pub value_within : (attrs : List Attr) (i : ℕ) (d : Attr) → i < length attrs → AllByRecursion IsWithin (map attribute_of attrs) → IsWithin (attribute_of (get_or attrs i d))
+pub value_within : (attrs : List Attr) (i : ℕ) (d : Attr) → i < length attrs → AllByRecursion EndsWithinAttribute (map attribute_of attrs) → EndsWithinAttribute (attribute_of (get_or attrs i d))
 value_within [] i d below h = absurd (omega arith)
 value_within (a ∷ attrs) zero d below h = h.0
 value_within (a ∷ attrs) (suc i) d below h = value_within attrs i d (omega arith) h.1
@@ -208,18 +208,18 @@ none_in_value attrs i d below none here =
     none_in_more (values attrs) i piece (omega (arith, length-values attrs, below)) (value_at attrs i d below) none here
 
 -- what is bad in units that follow each other is bad in the first of them or in the others
-pub bad-append : (us vs : List PlainUnit) (place : ℕ) → IsBad (us ++ vs) place → IsBad us place ⊎ IsBad vs place
+pub bad-append : (us vs : List PlainUnit) (place : ℕ) → IsBadInUnits (us ++ vs) place → IsBadInUnits us place ⊎ IsBadInUnits vs place
 bad-append [] vs place h = inr h
 bad-append (u ∷ us) vs place (inl here) = inl (inl here)
 bad-append (u ∷ us) vs place (inr later) = elim (bad-append us vs place later) [ inl h ↦ inl (inr h) | inr h ↦ inr h ]
 
 -- what is bad in the first units is bad in all
-pub bad-append_left : (us vs : List PlainUnit) (place : ℕ) → IsBad us place → IsBad (us ++ vs) place
+pub bad-append_left : (us vs : List PlainUnit) (place : ℕ) → IsBadInUnits us place → IsBadInUnits (us ++ vs) place
 bad-append_left [] vs place h = absurd h
 bad-append_left (u ∷ us) vs place (inl here) = inl here
 bad-append_left (u ∷ us) vs place (inr later) = inr (bad-append_left us vs place later)
 
 -- what is bad in the last units is bad in all
-pub bad-append_right : (us vs : List PlainUnit) (place : ℕ) → IsBad vs place → IsBad (us ++ vs) place
+pub bad-append_right : (us vs : List PlainUnit) (place : ℕ) → IsBadInUnits vs place → IsBadInUnits (us ++ vs) place
 bad-append_right [] vs place h = h
 bad-append_right (u ∷ us) vs place h = inr (bad-append_right us vs place h)

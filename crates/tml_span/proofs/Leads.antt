@@ -1,9 +1,9 @@
 -- The first bytes of a unit tell what kind it is of.
-use Rattle.std.proofs.Common.{◌≡◌, ◌≢◌, ℕ, Bool, true, false, cond, List, [], ◌∷◌, ◌++◌, refl, sym, ap, ◌∙◌, append_assoc, not}
+use Rattle.std.proofs.Common.{◌≡◌, ◌≢◌, ℕ, true, false, cond, List, [], ◌∷◌, ◌++◌, refl, sym, ap, ◌∙◌, append_assoc}
 use Rattle.std.specs.Prelude.{nat_eq, codes}
 use Rattle.std.specs.List.{starts_with, list_all}
 use Rattle.tml_span.specs.Bytes.{is_text_byte, is_name_start, is_name_byte, is_name}
-use Rattle.std.proofs.lemmas.Bool.{eqb-true, and_parts}
+use Rattle.std.proofs.lemmas.Bool.{eqb-true, and_parts, not-true}
 use Rattle.tml_span.specs.Units.{Attribute, Kind, bom, declaration, doctype, comment, text, start_tag, end_tag, empty_tag, SpelledTag, SpelledKind}
 
 -- what the first bytes begin
@@ -49,15 +49,11 @@ name_leads (b ∷ name) suffix h =
     let start = (and_parts (is_name_start b) (list_all is_name_byte name) h).0 in
     rw (not_start b 47 refl start, not_start b 33 refl start, not_start b 63 refl start) refl
 
-not_true : (t : Bool) → not t ≡ true → t ≡ false
-not_true true h = absurd cc
-not_true false h = refl
-
 -- a text begins with no `<`
 text_leads : (t suffix : List ℕ) → t ≢ [] → list_all is_text_byte t ≡ true → lead (t ++ suffix) ≡ plain
 text_leads [] suffix some h = absurd (some refl)
 text_leads (b ∷ t) suffix some h =
-    let first : nat_eq b 60 ≡ false = not_true (nat_eq b 60) (and_parts (is_text_byte b) (list_all is_text_byte t) h).0 in
+    let first : nat_eq b 60 ≡ false = not-true (nat_eq b 60) (and_parts (is_text_byte b) (list_all is_text_byte t) h).0 in
     rw first refl
 
 -- the parts of a tag, and what follows it

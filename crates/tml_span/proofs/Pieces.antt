@@ -9,7 +9,7 @@ use lib.Utf8.{encode}
 use Rattle.named.proofs.Lists.{all_append, all_weaker}
 use Rattle.tml_span.specs.Bytes.{is_quote, is_text_byte, is_value_byte, is_white}
 use Rattle.tml_span.specs.Cutting.{CutsFrom, Ends}
-use Rattle.tml_span.specs.References.{IsBad, IsBadIn, IsNowhere, kind_pieces, value_piece}
+use Rattle.tml_span.specs.References.{IsBadInUnits, IsBadIn, IsNowhere, kind_pieces, value_piece}
 use Rattle.tml_span.specs.Units.{Attribute, Kind, PlainUnit, SpelledAttribute, SpelledAttributes, SpelledKind, SpelledTag, bom, bom_bytes, comment, declaration, doctype, empty_tag, end_tag, start_tag, text}
 use Rattle.tml_span.specs.Written.{HasGoodReferences}
 use Rattle.tml_span.specs.Pieces.{IsGoodAttribute, IsGoodKind, IsGoodTag, IsGoodUnit, UnitsAreGood}
@@ -154,7 +154,7 @@ unit_parts place (end_tag name) prefix suffix h ends utf8 = closed_parts (codes 
 unit_parts place (empty_tag name attrs) prefix suffix h ends utf8 = closed_parts (codes "<" ++ name ++ h.inner ++ h.white ++ codes "/") prefix suffix (h.whole ∙ simp append_assoc) utf8
 
 -- the units of UTF-8 without bad references are good
-good_from : (place : ℕ) (bytes : List ℕ) (units : List PlainUnit) (rest : List ℕ) → CutsFrom place bytes units rest → IsUtf8 bytes → IsNowhere (IsBad units) → AllByRecursion IsGoodUnit units
+good_from : (place : ℕ) (bytes : List ℕ) (units : List PlainUnit) (rest : List ℕ) → CutsFrom place bytes units rest → IsUtf8 bytes → IsNowhere (IsBadInUnits units) → AllByRecursion IsGoodUnit units
 good_from place bytes [] rest h utf8 good = tt
 good_from place bytes (u ∷ units) rest h utf8 good =
     let parts = unit_parts place u.kind h.0 h.1 h.3.kind h.4 (subst IsUtf8 h.2 utf8) in

@@ -1,6 +1,5 @@
 -- A cutter of units, one unit further.
 use Rattle.std.proofs.Common.{◌≡◌, ℕ, ◌+◌, ◌-◌, ◌<◌, ◌≤◌, List, [], ◌∷◌, ◌++◌, length, drop, refl, sym, ap, subst, ◌∙◌, append_assoc, arith, length-append, None, Ok}
-use Rattle.std.specs.Prelude.{IsUtf8}
 use Rattle.std.proofs.Math.Seq.{drop-append_seam}
 use Rattle.tml_span.specs.Units.{PlainUnit}
 use Rattle.tml_span.specs.Cutting.{Stops, CutsFrom, FindsUnit}
@@ -21,10 +20,6 @@ at source place = record { source = source; place = place }
 
 abbrev pub left_of : Reading → List ℕ
 left_of r = drop r.place r.source
-
--- before the first unit
-pub nothing_cut : (source : List ℕ) → IsUtf8 source → HasCut (at source 0) []
-nothing_cut source utf8 = record { utf8 = utf8; cuts = λ left rest h. h; sound = λ place h. h; place = refl }
 
 -- ---- the bytes on both sides of the place
 

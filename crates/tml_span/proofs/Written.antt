@@ -6,8 +6,8 @@ use Rattle.std.proofs.lemmas.List.{append-nil}
 use Rattle.std.proofs.lemmas.List.Elements.{All-head, All-tail}
 use Rattle.tml_span.specs.Units.{Attribute, SpelledAttribute, SpelledAttributes, Kind, bom, declaration, doctype, comment, text, start_tag, end_tag, empty_tag, SpelledTag, SpelledKind, Spelled}
 use Rattle.tml_span.specs.Cutting.{Ends, CutsFrom}
-use Rattle.tml_span.specs.References.{value_piece, IsBadIn, kind_pieces, IsBad, IsNowhere}
-use Rattle.tml_span.specs.Written.{double_quote, attribute_text, kind_text, written, attribute_at, attributes_at, tag_attributes, kind_at, unit_at, units_at, IsAttribute, IsTag, IsContent, BeginsWithText, NoTextsMeet, WrittenIsCut}
+use Rattle.tml_span.specs.References.{value_piece, IsBadIn, kind_pieces, IsBadInUnits, IsNowhere}
+use Rattle.tml_span.specs.Written.{double_quote, attribute_text, unit_text, written, attribute_at, attributes_at, tag_attributes, kind_at, unit_at, units_at, IsAttribute, IsTag, IsContent, BeginsWithText, NoTextsMeet, WrittenIsCut}
 use Rattle.tml_span.proofs.EveryCut.{spelling_some}
 use Rattle.tml_span.proofs.FirstBad.{nowhere_at}
 use Rattle.tml_span.proofs.Joining.{empty_stops}
@@ -63,7 +63,7 @@ tag_spelled place name attrs close h = record {
 -- ---- one unit
 
 -- what is written at a place is spelled there as its kind is, unless it is a text with which a source begins
-pub kind_spelled : (place : ℕ) (kind : Kind) (kinds : List Kind) → IsContent kind → (place ≡ 0 → BeginsWithText (kind ∷ kinds) → ⊥) → SpelledKind place (kind_at place kind) (kind_text kind)
+pub kind_spelled : (place : ℕ) (kind : Kind) (kinds : List Kind) → IsContent kind → (place ≡ 0 → BeginsWithText (kind ∷ kinds) → ⊥) → SpelledKind place (kind_at place kind) (unit_text kind)
 kind_spelled place bom kinds h no_text = absurd h
 kind_spelled place (declaration bytes) kinds h no_text = absurd h
 kind_spelled place (doctype bytes) kinds h no_text = absurd h
@@ -74,11 +74,11 @@ kind_spelled place (end_tag name) kinds h no_text = ([], rw (append-nil name), h
 kind_spelled place (empty_tag name attrs) kinds h no_text = tag_spelled place name attrs (codes "/>") h
 
 -- a unit that is written at a place is spelled there, unless it is a text with which a source begins
-pub unit_spelled : (place : ℕ) (kind : Kind) (kinds : List Kind) → IsContent kind → (place ≡ 0 → BeginsWithText (kind ∷ kinds) → ⊥) → Spelled place (unit_at place kind) (kind_text kind)
+pub unit_spelled : (place : ℕ) (kind : Kind) (kinds : List Kind) → IsContent kind → (place ≡ 0 → BeginsWithText (kind ∷ kinds) → ⊥) → Spelled place (unit_at place kind) (unit_text kind)
 unit_spelled place kind kinds h no_text = record { kind = kind_spelled place kind kinds h no_text; start = refl; end = refl }
 
 -- what is written and is no text begins with `<`
-pub begins_marked : (kind : Kind) (kinds : List Kind) → IsContent kind → (BeginsWithText (kind ∷ kinds) → ⊥) → (suffix : List ℕ) × (kind_text kind ≡ codes "<" ++ suffix)
+pub begins_marked : (kind : Kind) (kinds : List Kind) → IsContent kind → (BeginsWithText (kind ∷ kinds) → ⊥) → (suffix : List ℕ) × (unit_text kind ≡ codes "<" ++ suffix)
 begins_marked bom kinds h no_text = absurd h
 begins_marked (declaration bytes) kinds h no_text = absurd h
 begins_marked (doctype bytes) kinds h no_text = absurd h
@@ -108,14 +108,14 @@ pub written_cuts_from : (place : ℕ) (kinds : List Kind) → All IsContent kind
 written_cuts_from place [] h apart no_text = (refl, empty_stops place)
 written_cuts_from place (kind ∷ kinds) h apart no_text =
     let spelled = unit_spelled place kind kinds (All-head IsContent kind kinds h) no_text in
-    let some = spelling_some place (unit_at place kind) (kind_text kind) spelled in
+    let some = spelling_some place (unit_at place kind) (unit_text kind) spelled in
     let others = All-tail IsContent kind kinds h in (
-      kind_text kind,
+      unit_text kind,
       written kinds,
       refl,
       spelled,
       written_ends place kind kinds others apart,
-      written_cuts_from (place + length (kind_text kind)) kinds others (no_texts_meet_after kind kinds apart) (λ zero begins. omega arith),
+      written_cuts_from (place + length (unit_text kind)) kinds others (no_texts_meet_after kind kinds apart) (λ zero begins. omega arith),
     )
 
 -- ---- references
@@ -134,10 +134,10 @@ kind_good place (empty_tag name attrs) h at bad = values_good (place + 1 + lengt
 kind_good place kind h at bad = bad
 
 -- in units that are written from a place on no reference is bad
-pub written_good : (place : ℕ) (kinds : List Kind) → All IsContent kinds → IsNowhere (IsBad (units_at place kinds))
+pub written_good : (place : ℕ) (kinds : List Kind) → All IsContent kinds → IsNowhere (IsBadInUnits (units_at place kinds))
 written_good place [] h at bad = bad
 written_good place (kind ∷ kinds) h at (inl here) = kind_good place kind (All-head IsContent kind kinds h) at here
-written_good place (kind ∷ kinds) h at (inr later) = written_good (place + length (kind_text kind)) kinds (All-tail IsContent kind kinds h) at later
+written_good place (kind ∷ kinds) h at (inr later) = written_good (place + length (unit_text kind)) kinds (All-tail IsContent kind kinds h) at later
 
 -- units that can be written are cut again as they were
 pub written_is_cut : WrittenIsCut

@@ -8,7 +8,7 @@ use Rattle.tml_span.specs.Units.{PlainUnit}
 use Rattle.tml_span.specs.Cutting.{Cuts, CutsFrom}
 use Rattle.tml_span.specs.Faults.{HasCutFault}
 use Rattle.tml_span.specs.Reader.{Reading, end_of}
-use Rattle.tml_span.specs.References.{IsBad, IsNowhere}
+use Rattle.tml_span.specs.References.{IsBadInUnits, IsNowhere}
 use Rattle.tml_span.specs.Slices.{UnitIsIn}
 use Rattle.tml_span.specs.View.{unit_of}
 use Rattle.tml_span.specs.Whole.{IsWhole}
@@ -17,7 +17,7 @@ use Rattle.tml_span.specs.Whole.{IsWhole}
 pub record HasCut (r : Reading) (given : List PlainUnit) : Type 0 where
   pub utf8 : IsUtf8 r.source
   pub cuts : (left : List PlainUnit) (rest : List ℕ) → CutsFrom r.place (drop r.place r.source) left rest → Cuts r.source (given ++ left) rest
-  pub sound : IsNowhere (IsBad given)
+  pub sound : IsNowhere (IsBadInUnits given)
   pub place : r.place ≡ end_of 0 given
 
 -- a source of fewer than 2^32 bytes, and 0 or the end of one of its units, up to which it has no fault

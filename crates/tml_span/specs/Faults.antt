@@ -9,7 +9,7 @@ use Rattle.tml_span.specs.declared.fault.PlainCut.{PlainCut}
 use Rattle.tml_span.specs.declared.fault.PlainCut.TheVariants as plain
 use Rattle.tml_span.specs.Units.{PlainUnit}
 use Rattle.tml_span.specs.Cutting.{Cuts}
-use Rattle.tml_span.specs.References.{IsBad, IsLeastPlace, IsNowhere}
+use Rattle.tml_span.specs.References.{IsBadInUnits, IsLeastPlace, IsNowhere}
 use Rattle.tml_span.specs.Whole.{IsWhole, CutsWhole}
 
 -- the source is not UTF-8, and its longest valid prefix has this length
@@ -18,11 +18,11 @@ IsNotUtf8 source place = ¬ (IsUtf8 source) × IsValidUpTo source place
 
 -- the first bad reference in the units of the cut is here
 abbrev pub HasBadReference : List ℕ → ℕ → Type 0
-HasBadReference source place = IsUtf8 source × (units : List PlainUnit) × (rest : List ℕ) × Cuts source units rest × IsLeastPlace (IsBad units) place
+HasBadReference source place = IsUtf8 source × (units : List PlainUnit) × (rest : List ℕ) × Cuts source units rest × IsLeastPlace (IsBadInUnits units) place
 
 -- no reference in the units of the cut is bad, but the cut has a rest, which begins here
 abbrev pub HasBadMarkup : List ℕ → ℕ → Type 0
-HasBadMarkup source place = IsUtf8 source × (units : List PlainUnit) × (rest : List ℕ) × Cuts source units rest × IsNowhere (IsBad units) × (rest ≢ []) × (place + length rest ≡ length source)
+HasBadMarkup source place = IsUtf8 source × (units : List PlainUnit) × (rest : List ℕ) × Cuts source units rest × IsNowhere (IsBadInUnits units) × (rest ≢ []) × (place + length rest ≡ length source)
 
 -- the fault of a source; the other kinds are not those of a cut
 abbrev pub CutFault : List ℕ → ℕ → FaultKind → Type 0

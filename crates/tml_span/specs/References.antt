@@ -28,16 +28,16 @@ abbrev pub IsReference : List ℕ → Type 0
 IsReference bytes = Contains named_references bytes ⊎ IsDecimalReference bytes ⊎ IsHexReference bytes
 
 -- a prefix of the bytes is so
-abbrev pub Begins : (List ℕ → Type 0) → List ℕ → Type 0
-Begins Is bytes = (prefix : List ℕ) × (suffix : List ℕ) × (bytes ≡ prefix ++ suffix) × Is prefix
+abbrev pub HasPrefix : (List ℕ → Type 0) → List ℕ → Type 0
+HasPrefix Is bytes = (prefix : List ℕ) × (suffix : List ℕ) × (bytes ≡ prefix ++ suffix) × Is prefix
 
 -- the bytes begin with a reference
 abbrev pub BeginsReference : List ℕ → Type 0
-BeginsReference bytes = Begins IsReference bytes
+BeginsReference bytes = HasPrefix IsReference bytes
 
 -- after digits, of which there are some and at most a number, is a `;`
-abbrev pub IsClosed : ℕ → ℕ → List ℕ → Type 0
-IsClosed digits most bytes = (1 ≤ digits) × (digits ≤ most) × (slice_get bytes digits ≡ Some (byte (codes ";")))
+abbrev pub EndsDigits : ℕ → ℕ → List ℕ → Type 0
+EndsDigits digits most bytes = (1 ≤ digits) × (digits ≤ most) × (slice_get bytes digits ≡ Some (byte (codes ";")))
 
 -- at an index of the bytes is an `&` with which no reference begins
 pub record IsBadAt (bytes : List ℕ) (index : ℕ) : Type 0 where
@@ -71,9 +71,9 @@ IsBadIn [] place = ⊥
 IsBadIn (piece ∷ pieces) place = ((index : ℕ) × IsBadAt piece.1 index × (place ≡ piece.0 + index)) ⊎ IsBadIn pieces place
 
 -- the same of the pieces of units
-abbrev pub IsBad : List PlainUnit → ℕ → Type 0
-IsBad [] place = ⊥
-IsBad (u ∷ units) place = IsBadIn (pieces_of u) place ⊎ IsBad units place
+abbrev pub IsBadInUnits : List PlainUnit → ℕ → Type 0
+IsBadInUnits [] place = ⊥
+IsBadInUnits (u ∷ units) place = IsBadIn (pieces_of u) place ⊎ IsBadInUnits units place
 
 -- the least place at which something is bad
 abbrev pub IsLeastPlace : (ℕ → Type 0) → ℕ → Type 0
@@ -93,8 +93,8 @@ FollowEachOther low [] high = low ≤ high
 FollowEachOther low (piece ∷ pieces) high = (low ≤ piece.0) × FollowEachOther (piece.0 + length piece.1) pieces high
 
 -- a value ends before its attribute does
-abbrev pub IsWithin : Attribute → Type 0
-IsWithin a = length a.value < a.end
+abbrev pub EndsWithinAttribute : Attribute → Type 0
+EndsWithinAttribute a = length a.value < a.end
 
 abbrev pub kind_attributes : Kind → List Attribute
 kind_attributes (start_tag name attrs) = attrs
@@ -104,4 +104,4 @@ kind_attributes kind = []
 -- the pieces of a unit are in order within its span
 pub record HasPiecesInOrder (u : PlainUnit) : Type 0 where
   pub follows : FollowEachOther u.start (pieces_of u) u.end
-  pub within : AllByRecursion IsWithin (kind_attributes u.kind)
+  pub within : AllByRecursion EndsWithinAttribute (kind_attributes u.kind)

@@ -2,7 +2,7 @@
 use Rattle.std.specs.Prelude.{ℕ, ◌<◌, ◌^◌, List, [], length, IsUtf8}
 use Rattle.tml_span.specs.Units.{PlainUnit}
 use Rattle.tml_span.specs.Cutting.{Cuts}
-use Rattle.tml_span.specs.References.{IsBad, IsNowhere}
+use Rattle.tml_span.specs.References.{IsBadInUnits, IsNowhere}
 
 pub record Cutting : Type 0 where
   pub source : List ℕ
@@ -10,7 +10,7 @@ pub record Cutting : Type 0 where
 
 -- the source has no fault, and these are all its units
 abbrev pub IsWhole : Cutting → Type 0
-IsWhole c = IsUtf8 c.source × Cuts c.source c.units [] × IsNowhere (IsBad c.units)
+IsWhole c = IsUtf8 c.source × Cuts c.source c.units [] × IsNowhere (IsBadInUnits c.units)
 
 -- the source has no fault
 abbrev pub CutsWhole : List ℕ → Type 0

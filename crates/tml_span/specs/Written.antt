@@ -14,19 +14,19 @@ abbrev pub attribute_text : Attribute → List ℕ
 attribute_text a = codes " " ++ a.name ++ codes "=\"" ++ a.value ++ codes "\""
 
 -- the text of a unit of a kind, whatever places its attributes have
-abbrev pub kind_text : Kind → List ℕ
-kind_text bom = bom_bytes
-kind_text (declaration bytes) = bytes
-kind_text (doctype bytes) = bytes
-kind_text (comment bytes) = bytes
-kind_text (text bytes) = bytes
-kind_text (start_tag name attrs) = codes "<" ++ name ++ flat_map attribute_text attrs ++ codes ">"
-kind_text (end_tag name) = codes "</" ++ name ++ codes ">"
-kind_text (empty_tag name attrs) = codes "<" ++ name ++ flat_map attribute_text attrs ++ codes "/>"
+abbrev pub unit_text : Kind → List ℕ
+unit_text bom = bom_bytes
+unit_text (declaration bytes) = bytes
+unit_text (doctype bytes) = bytes
+unit_text (comment bytes) = bytes
+unit_text (text bytes) = bytes
+unit_text (start_tag name attrs) = codes "<" ++ name ++ flat_map attribute_text attrs ++ codes ">"
+unit_text (end_tag name) = codes "</" ++ name ++ codes ">"
+unit_text (empty_tag name attrs) = codes "<" ++ name ++ flat_map attribute_text attrs ++ codes "/>"
 
 -- units written one after another
 abbrev pub written : List Kind → List ℕ
-written kinds = flat_map kind_text kinds
+written kinds = flat_map unit_text kinds
 
 -- ---- where they stand there
 
@@ -55,12 +55,12 @@ kind_at place kind = kind
 
 -- the unit of a kind that is written at a place
 abbrev pub unit_at : ℕ → Kind → PlainUnit
-unit_at place kind = record { start = place; end = place + length (kind_text kind); kind = kind_at place kind }
+unit_at place kind = record { start = place; end = place + length (unit_text kind); kind = kind_at place kind }
 
 -- the units of these kinds, written one after another from a place on
 abbrev pub units_at : ℕ → List Kind → List PlainUnit
 units_at place [] = []
-units_at place (kind ∷ kinds) = unit_at place kind ∷ units_at (place + length (kind_text kind)) kinds
+units_at place (kind ∷ kinds) = unit_at place kind ∷ units_at (place + length (unit_text kind)) kinds
 
 -- ---- what can be written
 

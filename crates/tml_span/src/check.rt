@@ -4,7 +4,7 @@ ghost use Rattle.tml_span.specs.Bytes as kinds;
 ghost use Rattle.tml_span.specs.Checking.{AddsPiece, ChecksAttributes, ChecksUnit};
 ghost use Rattle.tml_span.specs.Cutter.{IsCutSoFar};
 ghost use Rattle.tml_span.specs.Faults.{HasPlainFault};
-ghost use Rattle.tml_span.specs.References.{FirstBadIn, HasPiecesInOrder, IsWithin, pieces_of, value_piece};
+ghost use Rattle.tml_span.specs.References.{FirstBadIn, HasPiecesInOrder, EndsWithinAttribute, pieces_of, value_piece};
 ghost use Rattle.tml_span.specs.View.{attribute_of, unit_of};
 ghost use Rattle.tml_span.specs.Whole.{CutsWhole};
 
@@ -23,7 +23,7 @@ pub struct Checked<'s> {
 
 /// The first bad reference in the values so far and one more.
 fn first_bad(bad: Option<u32>, attr: &Attr) -> Option<u32>
-    requires { IsWithin (attribute_of attr.now) }
+    requires { EndsWithinAttribute (attribute_of attr.now) }
     ensures { AddsPiece bad (value_piece (attribute_of attr.now)) result }
 {
     match bad {

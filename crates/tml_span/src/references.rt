@@ -1,7 +1,7 @@
 //! References in texts and values, and the first that is bad.
 ghost use Rattle.std.specs.Prelude.{◌≡◌, ◌↔◌, ◌+◌, ◌<◌, ◌≤◌, ◌^◌, ℕ, false, [], ◌∷◌, length, IsTrue, IfSome, MatchOption, map, nat_eq, Some};
 ghost use Rattle.std.specs.List.{AllByRecursion, list_any, starts_with};
-ghost use Rattle.tml_span.specs.References.{named_references, Begins, IsClosed, IsDecimalReference, IsHexReference, BeginsReference, FirstBadIn, IsBadAt, IsLeastPlace, IsNowhere, HasPiecesInOrder, IsWithin, FollowEachOther, pieces_of, value_piece};
+ghost use Rattle.tml_span.specs.References.{named_references, HasPrefix, EndsDigits, IsDecimalReference, IsHexReference, BeginsReference, FirstBadIn, IsBadAt, IsLeastPlace, IsNowhere, HasPiecesInOrder, EndsWithinAttribute, FollowEachOther, pieces_of, value_piece};
 ghost use Rattle.tml_span.specs.View.{unit_of, attribute_of};
 
 use crate::bytes::{ampersand_at, digits_len, hex_digits_len};
@@ -10,7 +10,7 @@ use crate::{Attr, Span, Unit};
 /// Whether the digits at the start, of which at least 1 and at most `most` count, are closed by `;`.
 fn is_closed(digits: usize, most: usize, bytes: &[u8]) -> bool
     requires { digits ≤ length bytes.now }
-    ensures { IsTrue result ↔ IsClosed digits most bytes.now }
+    ensures { IsTrue result ↔ EndsDigits digits most bytes.now }
 {
     1 <= digits && digits <= most && bytes.get(digits) == Some(&b';')
 }
@@ -28,7 +28,7 @@ fn begins_named(bytes: &[u8]) -> bool
 
 /// Whether the bytes begin with a reference by decimal digits.
 fn begins_decimal(bytes: &[u8]) -> bool
-    ensures { IsTrue result ↔ Begins IsDecimalReference bytes.now }
+    ensures { IsTrue result ↔ HasPrefix IsDecimalReference bytes.now }
 {
     match bytes.strip_prefix(b"&#") {
         Some(digits) => is_closed(digits_len(digits), 7, digits),
@@ -38,7 +38,7 @@ fn begins_decimal(bytes: &[u8]) -> bool
 
 /// Whether the bytes begin with a reference by hexadecimal digits.
 fn begins_hex(bytes: &[u8]) -> bool
-    ensures { IsTrue result ↔ Begins IsHexReference bytes.now }
+    ensures { IsTrue result ↔ HasPrefix IsHexReference bytes.now }
 {
     match bytes.strip_prefix(b"&#x") {
         Some(digits) => is_closed(hex_digits_len(digits), 6, digits),
@@ -90,7 +90,7 @@ fn bad_place_in_text(span: Span, text: &[u8]) -> Option<u32>
 
 /// The place of the first bad reference in the value of an attribute.
 pub fn bad_place_in_value(attr: &Attr) -> Option<u32>
-    requires { IsWithin (attribute_of attr.now) }
+    requires { EndsWithinAttribute (attribute_of attr.now) }
     ensures { FirstBadIn (value_piece (attribute_of attr.now) ∷ []) result }
 {
     bad_place(attr.span.end - 1 - attr.value.len() as u32, attr.value)
@@ -98,7 +98,7 @@ pub fn bad_place_in_value(attr: &Attr) -> Option<u32>
 
 /// The place of the first bad reference in the values of attributes.
 fn bad_value(attrs: &[Attr]) -> Option<u32>
-    requires within { AllByRecursion IsWithin (map attribute_of attrs.now) }
+    requires within { AllByRecursion EndsWithinAttribute (map attribute_of attrs.now) }
     requires follows { (low : ℕ) × (high : ℕ) × FollowEachOther low (map value_piece (map attribute_of attrs.now)) high }
     ensures { FirstBadIn (map value_piece (map attribute_of attrs.now)) result }
 {

@@ -8,7 +8,7 @@ use crate::{Cutter, Memory, Unit};
 use std::alloc::Global;
 use std::marker::Model;
 
-/// GivesUnit the units of a source one by one, from the first on. The source has no fault. Contracts see the source and the
+/// Gives the units of a source one by one, from the first on. The source has no fault. Contracts see the source and the
 /// place: the units that are given are those that end at or before it.
 #[derive(Drop)]
 pub struct UnitReader<'s> {

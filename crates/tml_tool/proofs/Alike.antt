@@ -10,7 +10,7 @@ use Rattle.order_answers.specs.Solve.{OfSolve}
 use Rattle.possible_answers.specs.Matrix.{OfMatrix}
 use Rattle.possible_answers.specs.Possible.{OfPossible}
 use Rattle.score_answers.specs.Reduce.{OfReduce}
-use Rattle.seconds_answers.specs.Placed.{OfSeconds}
+use Rattle.seconds_answers.specs.Seconds.{OfSeconds}
 use Rattle.tml_accept.specs.Acceptance.{IsAccepted, Says}
 use Rattle.tml_accept.proofs.Phases.{accepted_or_fault, one_document}
 use Rattle.tml_canon.specs.Canonical.{canonical_text}
@@ -20,8 +20,8 @@ use Rattle.tml_canon.proofs.Saying.{canonical_says_the_same}
 use Rattle.tml_canon.proofs.Alike.{canonical_is_itself}
 use Rattle.tml_io.specs.Files.{Files}
 use Rattle.tml_refs.specs.Documents.{PlainDocument}
-use Rattle.runs.specs.OneReply.{is_broken_off}
-use Rattle.runs.specs.Reading.{total}
+use Rattle.runs.specs.OneReply.{is_aborted}
+use Rattle.runs.specs.Reading.{total_length}
 use Rattle.runs.specs.Replies.{Replies}
 use Rattle.runs.specs.declared.status.Status.{Status}
 use Rattle.runs.proofs.OneFile.{replied, replies}
@@ -42,13 +42,13 @@ module _ (doc other : List ℕ) (contents : PlainDocument) (says : Says doc cont
 
   module _ (files : Files) (name another : List ℕ) (holds : HoldsDocument files name doc) (too : HoldsDocument files another other) where
     -- so a reply over the one has a reply over the other
-    rows_alike : (Of : Contents) (status : Status) (line : List ℕ) (taken : ℕ) → is_broken_off status ≡ false → Replies (Some files) (document_rows Of name) status line taken
+    rows_alike : (Of : Contents) (status : Status) (line : List ℕ) (taken : ℕ) → is_aborted status ≡ false → Replies (Some files) (document_rows Of name) status line taken
         → (count : ℕ) × Replies (Some files) (document_rows Of another) status line count
     rows_alike Of status line taken whole h =
         let answer = replied files (doc_file name) (of_contents Of) doc holds.0 holds.1 status line taken whole h in
-        (total (other ∷ []) + 0, replies files (doc_file another) (of_contents Of) other too.0 too.1 status line (answered_alike Of status line answer))
+        (total_length (other ∷ []) + 0, replies files (doc_file another) (of_contents Of) other too.0 too.1 status line (answered_alike Of status line answer))
 
-    reply_alike : (form : Form) (given : List (List ℕ)) (status : Status) (line : List ℕ) → is_of_contents form ≡ true → is_broken_off status ≡ false → HasReply files form name given status line → HasReply files form another given status line
+    reply_alike : (form : Form) (given : List (List ℕ)) (status : Status) (line : List ℕ) → is_of_contents form ≡ true → is_aborted status ≡ false → HasReply files form name given status line → HasReply files form another given status line
     reply_alike Check [] status line e whole (taken, h) = rows_alike OfCheck status line taken whole h
     reply_alike Dates [] status line e whole (taken, h) = rows_alike OfDates status line taken whole h
     reply_alike Solve [] status line e whole (taken, h) = rows_alike (of_net OfSolve) status line taken whole h

@@ -13,7 +13,7 @@ use Rattle.runs.specs.Words.{texts_of}
 use Rattle.runs.proofs.Usage.{usage_replied as replied_usage}
 use Rattle.tml_tool.specs.declared.commands.Form.{Form}
 use Rattle.tml_tool.specs.declared.commands.Form.TheVariants.{Spans}
-use Rattle.tml_tool.specs.Commands.{all_forms, arguments_of, form_of, rows_of, taken, takes, usage, word_of}
+use Rattle.tml_tool.specs.Commands.{all_forms, arguments_of, form_of, rows_of, taken_form, takes, usage, word_of}
 use Rattle.tml_tool.specs.Forms.{with_arguments}
 
 pub by_test : (b : Bool) (asked : Option (Form × List (List ℕ))) → b ≡ true → (if b then asked else None) ≡ asked
@@ -40,11 +40,11 @@ module _ (words arguments : List (String Global)) (word : String Global) (bytes 
   count : length (texts_of arguments) ≡ length arguments
   count = length-map arguments (λ (w : String Global). string_bytes w)
 
-  pub is_asked : (form : Form) → Some form ≡ named_of word_of all_forms bytes → length arguments ≡ length (arguments_of form) → form_of (texts_of words) ≡ taken form (texts_of arguments)
-  is_asked form e n = is_form (Some form) e ∙ by_test (length (texts_of arguments) == length (arguments_of form)) (taken form (texts_of arguments)) (eq-eqb _ _ (count ∙ n))
+  pub is_asked : (form : Form) → Some form ≡ named_of word_of all_forms bytes → length arguments ≡ length (arguments_of form) → form_of (texts_of words) ≡ taken_form form (texts_of arguments)
+  is_asked form e n = is_form (Some form) e ∙ by_test (length (texts_of arguments) == length (arguments_of form)) (taken_form form (texts_of arguments)) (eq-eqb _ _ (count ∙ n))
 
   pub no_count : (form : Form) → Some form ≡ named_of word_of all_forms bytes → length arguments ≢ length (arguments_of form) → form_of (texts_of words) ≡ None
-  no_count form e n = is_form (Some form) e ∙ by_no_test (length (texts_of arguments) == length (arguments_of form)) (taken form (texts_of arguments)) (no_true _ _ (λ same. n (sym count ∙ same)))
+  no_count form e n = is_form (Some form) e ∙ by_no_test (length (texts_of arguments) == length (arguments_of form)) (taken_form form (texts_of arguments)) (no_true _ _ (λ same. n (sym count ∙ same)))
 
 -- a reply belongs to the rows of the form that some words have
 pub along : (known : Option Files) (sound : Bool) (given now faults risen : ℕ) (same : Type 0) (form other : Option (Form × List (List ℕ))) (status : Status) (text : List ℕ) → form ≡ other → IsReplyTo (rows_of other) known sound given now faults risen same status text

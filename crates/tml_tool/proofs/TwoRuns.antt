@@ -28,7 +28,7 @@ use Rattle.score_answers.specs.Score.{OfKey, OfScore, key_clash, key_file, score
 use Rattle.tml_accept.specs.Acceptance.{Says}
 use Rattle.tml_io.specs.Files.{Files, held}
 use Rattle.tml_refs.specs.Documents.{PlainDocument}
-use Rattle.runs.specs.OneReply.{is_broken_off}
+use Rattle.runs.specs.OneReply.{is_aborted}
 use Rattle.runs.specs.Replies.{Replies}
 use Rattle.runs.specs.declared.status.Status.{Status}
 use Rattle.runs.specs.declared.status.Status.TheVariants.{Done, Clash, DocFault, TooLong, Usage}
@@ -94,7 +94,7 @@ HasShown files name text = (doc : List ℕ) × (held files name ≡ Some doc) ×
 
 -- an answer that is not the refusal of a document, nor that of a file
 abbrev IsAnswer : Status → Type 0
-IsAnswer status = (is_broken_off status ≡ false) × (status ≡ DocFault → ⊥) × (status ≡ TooLong → ⊥)
+IsAnswer status = (is_aborted status ≡ false) × (status ≡ DocFault → ⊥) × (status ≡ TooLong → ⊥)
 
 shown : (files : Files) (Of : Contents) (name : List ℕ) (status : Status) (text : List ℕ) (taken : ℕ) → IsAnswer status → AreEvidence Of status → Replies (Some files) (document_rows Of name) status text taken → HasShown files name text
 shown files Of name status text taken answer are h = elim (answered_or_long files (doc_file name) (of_contents Of) status text taken answer.0 h) [
@@ -113,7 +113,7 @@ scored files name key text taken other h = elim (judged_or_long documents files 
 ]
 
 -- words that have no form have no other reply than the usage text
-no_form : (files : Files) (status : Status) (text : List ℕ) (taken : ℕ) → is_broken_off status ≡ false → (status ≡ Usage → ⊥) → Replies (Some files) (usage_rows usage) status text taken → ⊥
+no_form : (files : Files) (status : Status) (text : List ℕ) (taken : ℕ) → is_aborted status ≡ false → (status ≡ Usage → ⊥) → Replies (Some files) (usage_rows usage) status text taken → ⊥
 no_form files status text taken whole other h =
     let reply : Replies (Some files) (usage_rows usage) Usage usage 0 = answered (Some files) (usage_rows usage) [] Usage usage 0 tt refl refl in
     other (one_reply (usage_rows usage) (usage_answered usage).one_next files status Usage text usage taken 0 whole refl h reply).one_status

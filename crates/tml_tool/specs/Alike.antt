@@ -3,7 +3,7 @@ use Rattle.std.specs.Prelude.{◌≡◌, ◌↔◌, ◌≤◌, Bool, true, false
 use Rattle.document_answers.specs.Canon.{HasCanonicalText}
 use Rattle.net_core.specs.Limits.{max_document}
 use Rattle.tml_io.specs.Files.{Files, held}
-use Rattle.runs.specs.OneReply.{is_broken_off}
+use Rattle.runs.specs.OneReply.{is_aborted}
 use Rattle.runs.specs.Replies.{Replies}
 use Rattle.runs.specs.declared.status.Status.{Status}
 use Rattle.tml_tool.specs.Commands.{rows_with}
@@ -31,11 +31,11 @@ HoldsDocument files name doc = (held files name ≡ Some doc) × (length doc ≤
 abbrev pub HasReply : Files → Form → List ℕ → List (List ℕ) → Status → List ℕ → Type 0
 HasReply files form name arguments status line = (taken : ℕ) × Replies (Some files) (rows_with form (name ∷ arguments)) status line taken
 
--- A canonical text is its own canonical text; and where a file holds the document and another one its canonical text, what the document says decides alike: each reply over the one that is not broken off is one over the other. A canonical text can be longer than its document, and is not read where it is too long.
+-- A canonical text is its own canonical text; and where a file holds the document and another one its canonical text, what the document says decides alike: each reply over the one that is not aborted is one over the other. A canonical text can be longer than its document, and is not read where it is too long.
 pub record IsAlike (doc text : List ℕ) : Type 0 where
   pub itself : HasCanonicalText text text
   pub alike : (files : Files) (form : Form) (name other : List ℕ) (arguments : List (List ℕ)) (status : Status) (line : List ℕ)
-      → is_of_contents form ≡ true → HoldsDocument files name doc → HoldsDocument files other text → is_broken_off status ≡ false
+      → is_of_contents form ≡ true → HoldsDocument files name doc → HoldsDocument files other text → is_aborted status ≡ false
       → HasReply files form name arguments status line ↔ HasReply files form other arguments status line
 
 abbrev pub CanonicalIsAlike : Type 0

@@ -21,7 +21,7 @@ use Rattle.possible_answers.specs.Matrix.{matrix_rows}
 use Rattle.possible_answers.specs.Possible.{possible_rows}
 use Rattle.score_answers.specs.Reduce.{reduce_rows}
 use Rattle.score_answers.specs.Score.{ScoreIsFree, score_rows}
-use Rattle.seconds_answers.specs.Placed.{SecondsAreFree, seconds_rows}
+use Rattle.seconds_answers.specs.Seconds.{SecondsAreFree, seconds_rows}
 use Rattle.runs.specs.Rows.{Freedom, NeverFree, Rows}
 use Rattle.runs.specs.Words.{calls_for, texts_of, usage_rows}
 use Rattle.tml_tool.specs.Forms.{taken_by, usage_of, with_arguments}
@@ -119,8 +119,8 @@ is_free_with form arguments = NeverFree
 -- ---- words
 
 -- a form with this number of arguments, if it takes them
-abbrev pub taken : Form → List (List ℕ) → Option (Form × List (List ℕ))
-taken form arguments = taken_by takes form arguments
+abbrev pub taken_form : Form → List (List ℕ) → Option (Form × List (List ℕ))
+taken_form form arguments = taken_by takes form arguments
 
 -- The form of some words, with its arguments: no words stand for `spans -`.
 abbrev pub form_of : List (List ℕ) → Option (Form × List (List ℕ))

@@ -6,7 +6,7 @@ ghost use Rattle.tml_io.specs.Faults.{CallsFollow, HasRisen, RisesAtMost};
 ghost use Rattle.runs.specs.Replied.{IsReplyTo};
 ghost use Rattle.runs.specs.View.{status_of, text_of};
 ghost use Rattle.runs.specs.Words.{texts_of};
-ghost use Rattle.tml_tool.specs.Commands.{arguments_of, most_calls, most_files, rows_of, taken, usage};
+ghost use Rattle.tml_tool.specs.Commands.{arguments_of, most_calls, most_files, rows_of, taken_form, usage};
 ghost use Rattle.tml_tool.specs.Forms.{argument};
 
 use answers::{DOC, reply_of_document, reply_of_judged};
@@ -161,15 +161,15 @@ pub fn reply_with<I: Inputs>(
     inputs: &mut I,
 ) -> Reply
     requires { length arguments.now ≡ length (arguments_of form) }
-    ensures reply { IsReplyTo (rows_of (taken form (texts_of arguments.now))) (I.files inputs.old) (I.sound inputs.old)
+    ensures reply { IsReplyTo (rows_of (taken_form form (texts_of arguments.now))) (I.files inputs.old) (I.sound inputs.old)
         (I.given inputs.old) (I.given inputs.new) (I.faults inputs.old) (I.faults inputs.new)
         (inputs.new ≡ inputs.old) (status_of result) (text_of result) }
-    ensures usage { (status_of result ≡ Status.Usage) ↔ (taken form (texts_of arguments.now) ≡ None) }
+    ensures usage { (status_of result ≡ Status.Usage) ↔ (taken_form form (texts_of arguments.now) ≡ None) }
     ensures fault { status_of result ≡ Status.ReadFault → HasRisen (I.faults inputs.old) (I.faults inputs.new) }
     ensures files { I.files inputs.new ≡ I.files inputs.old }
     ensures stays_sound { I.sound inputs.new ≡ I.sound inputs.old }
-    ensures calls { RisesAtMost (most_calls (taken form (texts_of arguments.now))) (I.calls inputs.old) (I.calls inputs.new) }
-    ensures follows { CallsFollow (2 * most_files (taken form (texts_of arguments.now))) (I.given inputs.old) (I.given inputs.new) (I.calls inputs.old) (I.calls inputs.new) }
+    ensures calls { RisesAtMost (most_calls (taken_form form (texts_of arguments.now))) (I.calls inputs.old) (I.calls inputs.new) }
+    ensures follows { CallsFollow (2 * most_files (taken_form form (texts_of arguments.now))) (I.given inputs.old) (I.given inputs.new) (I.calls inputs.old) (I.calls inputs.new) }
     ensures never_falls { I.faults inputs.old ≤ I.faults inputs.new }
 {
     let first = word(arguments, 0);

@@ -41,7 +41,7 @@ pub fn missing_files_are_faults()
 {}
 
 /// What commands print as evidence of a document, `verify` accepts over the same document: Done is a reply, and but for
-/// one that is broken off the only one.
+/// one that is aborted the only one.
 pub fn evidence_is_verified()
     ensures { EvidenceIsVerified }
 {}

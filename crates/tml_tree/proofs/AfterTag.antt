@@ -11,10 +11,10 @@ use Rattle.tml_span.specs.Written.{NoTextsMeet}
 use Rattle.tml_span.proofs.EveryCut.{spelling_some}
 use Rattle.tml_span.proofs.TextsApart.{cut_apart, kind_of}
 use Rattle.tml_tree.specs.Plain.{unit, PlainNode}
-use Rattle.tml_tree.specs.Nesting.{OpenTag, Opens, is_content}
+use Rattle.tml_tree.specs.Nesting.{OpenTag, LeavesOpen, is_content}
 use Rattle.tml_tree.specs.Rules.{is_past_bom, is_tag, is_doctype}
 use Rattle.tml_tree.specs.Stage.{Stage, step, run}
-use Rattle.tml_tree.specs.Trees.{Breaks}
+use Rattle.tml_tree.specs.Trees.{BreaksUnitRule}
 use Rattle.tml_tree.proofs.Allowed.{not_at_fault}
 use Rattle.tml_tree.proofs.Running.{then_some, opens_step}
 
@@ -43,7 +43,7 @@ tag_begun (u ∷ us) h = elim (or_cases (is_tag u) (list_any is_tag us) h) [
 
 -- a unit after a tag is no Bom, no declaration and no doctype
 kind_is_content : (start end : ℕ) (k : Kind) (place : ℕ) (prefix : List ℕ) (done us : List PlainUnit) (tags : List OpenTag) (nodes : List PlainNode) → 0 < place → list_any is_tag done ≡ true
-    → Opens (filter is_content done) tags nodes → NoneBreaks Breaks (done ++ unit start end k ∷ us) → SpelledKind place k prefix → is_content (unit start end k) ≡ true
+    → LeavesOpen (filter is_content done) tags nodes → NoneBreaks BreaksUnitRule (done ++ unit start end k ∷ us) → SpelledKind place k prefix → is_content (unit start end k) ≡ true
 kind_is_content start end bom place prefix done us tags nodes some t o lawful h = absurd (omega (arith, h.0))
 kind_is_content start end (declaration b) place prefix done us tags nodes some t o lawful h =
     absurd (both_ways (list_any is_past_bom done) (not_at_fault done us (unit start end (declaration b)) tags nodes o lawful fault.Misplaced) (tag_begun done t))
@@ -53,14 +53,14 @@ kind_is_content start end (doctype b) place prefix done us tags nodes some t o l
 kind_is_content start end k place prefix done us tags nodes some t o lawful h = refl
 
 -- after a tag each unit is part of an item
-content_from : (done us : List PlainUnit) (place : ℕ) (bytes : List ℕ) (tags : List OpenTag) (nodes : List PlainNode) (s : Stage) → 0 < place → list_any is_tag done ≡ true → Opens (filter is_content done) tags nodes
-    → run tags nodes us ≡ Some s → NoneBreaks Breaks (done ++ us) → CutsFrom place bytes us [] → filter is_content us ≡ us
+content_from : (done us : List PlainUnit) (place : ℕ) (bytes : List ℕ) (tags : List OpenTag) (nodes : List PlainNode) (s : Stage) → 0 < place → list_any is_tag done ≡ true → LeavesOpen (filter is_content done) tags nodes
+    → run tags nodes us ≡ Some s → NoneBreaks BreaksUnitRule (done ++ us) → CutsFrom place bytes us [] → filter is_content us ≡ us
 content_from done [] place bytes tags nodes s some t o e lawful c = refl
 content_from done (u ∷ us) place bytes tags nodes s some t o e lawful c =
     let one = then_some (step tags nodes u) (λ r. run r.tags r.nodes us) s e in
     let here = kind_is_content u.start u.end u.kind place c.0 done us tags nodes some t o lawful c.3.kind in
     let rest = content_from (done ++ u ∷ []) us (place + length c.0) c.1 one.0.tags one.0.nodes s (omega arith) (tagged_more done (u ∷ []) (inl t)) (opens_step done u tags nodes one.0 o one.1) one.2
-    (subst (λ (vs : List PlainUnit). NoneBreaks Breaks vs) (sym (append_assoc done (u ∷ []) us)) lawful) c.5 in
+    (subst (λ (vs : List PlainUnit). NoneBreaks BreaksUnitRule vs) (sym (append_assoc done (u ∷ []) us)) lawful) c.5 in
     cond-true (is_content u) (u ∷ filter is_content us) (filter is_content us) here ∙ ap (λ (vs : List PlainUnit). u ∷ vs) rest
 
 -- one unit more: where it is a tag, what is after the first tag is what follows it
@@ -72,13 +72,13 @@ after_kind start end (empty_tag name attrs) us f h = f refl
 after_kind start end k us f h = h
 
 -- after the first tag of the items no two texts meet
-pub apart_after_tag : (done us : List PlainUnit) (place : ℕ) (bytes : List ℕ) (tags : List OpenTag) (nodes : List PlainNode) (s : Stage) → Opens (filter is_content done) tags nodes → run tags nodes us ≡ Some s
-    → NoneBreaks Breaks (done ++ us) → CutsFrom place bytes us [] → NoTextsMeet (map kind_of (after_tag (filter is_content us)))
+pub apart_after_tag : (done us : List PlainUnit) (place : ℕ) (bytes : List ℕ) (tags : List OpenTag) (nodes : List PlainNode) (s : Stage) → LeavesOpen (filter is_content done) tags nodes → run tags nodes us ≡ Some s
+    → NoneBreaks BreaksUnitRule (done ++ us) → CutsFrom place bytes us [] → NoTextsMeet (map kind_of (after_tag (filter is_content us)))
 apart_after_tag done [] place bytes tags nodes s o e lawful c = tt
 apart_after_tag done (u ∷ us) place bytes tags nodes s o e lawful c =
     let one = then_some (step tags nodes u) (λ r. run r.tags r.nodes us) s e in
     let next = opens_step done u tags nodes one.0 o one.1 in
-    let others = subst (λ (vs : List PlainUnit). NoneBreaks Breaks vs) (sym (append_assoc done (u ∷ []) us)) lawful in
+    let others = subst (λ (vs : List PlainUnit). NoneBreaks BreaksUnitRule vs) (sym (append_assoc done (u ∷ []) us)) lawful in
     let later = place + length c.0 in
     let some : 0 < later = omega (arith, spelling_some place u c.0 c.3) in
     let tagged = λ (t : is_tag u ≡ true). tagged_more done (u ∷ []) (inr (or_left (is_tag u) false t)) in

@@ -7,12 +7,12 @@ use Rattle.faults.specs.First.{NoneBreaks}
 use Rattle.faults.specs.declared.kind.FaultKind.{FaultKind}
 use Rattle.tml_span.specs.Units.{Kind, bom, declaration, doctype, PlainUnit}
 use Rattle.tml_tree.specs.Plain.{unit, PlainNode, text_node, comment_node, element, nodes_of}
-use Rattle.tml_tree.specs.Nesting.{Item, Items, OpenTag, Opens, open_name, is_seen, is_content, is_element}
+use Rattle.tml_tree.specs.Nesting.{Item, Items, OpenTag, LeavesOpen, open_name, is_seen, is_content, is_element}
 use Rattle.tml_tree.specs.Rules.{history_of, is_at_fault, is_tag}
-use Rattle.tml_tree.specs.Trees.{Breaks}
+use Rattle.tml_tree.specs.Trees.{BreaksUnitRule}
 
 -- no unit is at fault, given what the units before it have open
-pub not_at_fault : (done us : List PlainUnit) (u : PlainUnit) (tags : List OpenTag) (nodes : List PlainNode) → Opens (filter is_content done) tags nodes → NoneBreaks Breaks (done ++ u ∷ us) → (kind : FaultKind)
+pub not_at_fault : (done us : List PlainUnit) (u : PlainUnit) (tags : List OpenTag) (nodes : List PlainNode) → LeavesOpen (filter is_content done) tags nodes → NoneBreaks BreaksUnitRule (done ++ u ∷ us) → (kind : FaultKind)
     → is_at_fault kind (history_of done (map open_name tags) (is_seen tags nodes)) u.kind ≡ false
 not_at_fault done us u tags nodes o lawful kind =
     false_from_ne_true (is_at_fault kind (history_of done (map open_name tags) (is_seen tags nodes)) u.kind) (λ e. lawful done us u kind refl (map open_name tags, is_seen tags nodes, (tags, nodes, o, refl, refl), e))
@@ -45,5 +45,5 @@ content_tagged [] = refl
 content_tagged (u ∷ us) = content_kind_tagged u.start u.end u.kind us (content_tagged us)
 
 -- where no tag is open, there was a tag only where there was an element
-pub tagged_is_seen : (us : List PlainUnit) (nodes : List PlainNode) → Opens (filter is_content us) [] nodes → list_any is_tag us ≡ list_any is_element nodes
+pub tagged_is_seen : (us : List PlainUnit) (nodes : List PlainNode) → LeavesOpen (filter is_content us) [] nodes → list_any is_tag us ≡ list_any is_element nodes
 tagged_is_seen us nodes o = sym (content_tagged us) ∙ items_tagged nodes (filter is_content us) o

@@ -5,14 +5,15 @@ use Rattle.std.specs.List.{filter}
 use Rattle.std.specs.Str.{bytes_eq}
 use Rattle.std.proofs.lemmas.List.{length-map}
 use Rattle.std.proofs.lemmas.Bool.Decides.{nat_tests}
+use Rattle.std.proofs.lemmas.Bool.{false_from_ne_true}
 use Rattle.faults.specs.First.{NoneBreaks}
 use Rattle.faults.specs.declared.kind.FaultKind.TheVariants as fault
 use Rattle.tml_span.specs.Units.{Kind, bom, declaration, doctype, comment, text, start_tag, end_tag, empty_tag, PlainUnit}
 use Rattle.tml_tree.specs.Plain.{unit, PlainNode, text_node, comment_node, element, none, nodes_of}
-use Rattle.tml_tree.specs.Nesting.{OpenTag, Opens, Nests, open_name, is_seen, is_content, is_element}
+use Rattle.tml_tree.specs.Nesting.{OpenTag, LeavesOpen, Nests, open_name, is_seen, is_content, is_element}
 use Rattle.tml_tree.specs.Rules.{history_of, is_too_deep}
 use Rattle.tml_tree.specs.Stage.{Stage, step, run}
-use Rattle.tml_tree.specs.Trees.{Breaks}
+use Rattle.tml_tree.specs.Trees.{BreaksUnitRule}
 use Rattle.tml_tree.specs.Places.{depth_of, deepest}
 use Rattle.tml_tree.specs.Whole.{IsTreeOf}
 use Rattle.tml_tree.proofs.Running.{then_some, opens_step, open_runs}
@@ -67,18 +68,14 @@ shallow_step start end (empty_tag name attrs) us tags nodes seen s h d e =
 shallow_step start end (end_tag name) us [] nodes seen s h d e = absurd cc
 shallow_step start end (end_tag name) us (t ∷ tags) nodes seen s h d e = shallow_end t tags nodes end s (bytes_eq t.name name) h e
 
-not_true : (b : Bool) → (b ≡ true → ⊥) → b ≡ false
-not_true true h = absurd (h refl)
-not_true false h = refl
-
-shallow_from : (done us : List PlainUnit) (tags : List OpenTag) (nodes : List PlainNode) (s : Stage) → Opens (filter is_content done) tags nodes → AreShallow tags nodes → NoneBreaks Breaks (done ++ us) → run tags nodes us ≡ Some s → AreShallow s.tags s.nodes
+shallow_from : (done us : List PlainUnit) (tags : List OpenTag) (nodes : List PlainNode) (s : Stage) → LeavesOpen (filter is_content done) tags nodes → AreShallow tags nodes → NoneBreaks BreaksUnitRule (done ++ us) → run tags nodes us ≡ Some s → AreShallow s.tags s.nodes
 shallow_from done [] tags nodes s o h lawful e = subst (λ (r : Stage). AreShallow r.tags r.nodes) (same_Some _ _ e) h
 shallow_from done (u ∷ us) tags nodes s o h lawful e =
     let one = then_some (step tags nodes u) (λ r. run r.tags r.nodes us) s e in
     let nests : Nests done (map open_name tags) (is_seen tags nodes) = (tags, nodes, o, refl, refl) in
-    let flat = not_true (is_too_deep (history_of done (map open_name tags) (is_seen tags nodes)) u.kind) (λ d. lawful done us u fault.TooDeep refl (map open_name tags, is_seen tags nodes, nests, d)) in
+    let flat = false_from_ne_true (is_too_deep (history_of done (map open_name tags) (is_seen tags nodes)) u.kind) (λ d. lawful done us u fault.TooDeep refl (map open_name tags, is_seen tags nodes, nests, d)) in
     let kept = shallow_step u.start u.end u.kind done tags nodes (is_seen tags nodes) one.0 h flat one.1 in
-    shallow_from (done ++ u ∷ []) us one.0.tags one.0.nodes s (opens_step done u tags nodes one.0 o one.1) kept (subst (λ (vs : List PlainUnit). NoneBreaks Breaks vs) (sym (append_assoc done (u ∷ []) us)) lawful) one.2
+    shallow_from (done ++ u ∷ []) us one.0.tags one.0.nodes s (opens_step done u tags nodes one.0 o one.1) kept (subst (λ (vs : List PlainUnit). NoneBreaks BreaksUnitRule vs) (sym (append_assoc done (u ∷ []) us)) lawful) one.2
 
 among : (nodes : List PlainNode) (root : PlainNode) (rest : List PlainNode) → filter is_element nodes ≡ root ∷ rest → depth_of root ≤ deepest (nodes_of nodes)
 among [] root rest e = absurd cc

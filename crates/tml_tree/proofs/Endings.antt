@@ -2,20 +2,16 @@
 use Rattle.std.proofs.Common.{◌≡◌, ℕ, Bool, true, false, not, List, [], ◌∷◌, ◌++◌, refl, sym, ap, ◌∙◌, Some, None}
 use Rattle.std.specs.Str.{bytes_eq}
 use Rattle.tml_tree.specs.declared.builder.Frame.{Frame}
-use Rattle.tml_tree.specs.declared.tag_name.TagName.{TagName}
 use Rattle.tml_tree.specs.TagNames.{text_of}
 use Rattle.tml_tree.specs.Plain.{PlainNode, element, nodes_of}
 use Rattle.tml_tree.specs.Nesting.{OpenTag}
 use Rattle.tml_span.specs.Units.{end_tag}
-use Rattle.tml_tree.specs.Judging.{first_fault, names_in}
+use Rattle.tml_tree.specs.Judging.{first_fault}
 use Rattle.tml_tree.specs.Rules.{History, is_innermost}
 use Rattle.tml_tree.proofs.FirstFaults.{first_of}
 use Rattle.tml_tree.specs.Stage.{closed}
 use Rattle.tml_tree.specs.Building.{open_tag_of, open_tags_of}
-use Rattle.tml_tree.proofs.Stacks.{names_more, tags_more}
-
-pub innermost_is : (tags rest : List TagName) (t : TagName) (name : List ℕ) → tags ≡ rest ++ t ∷ [] → is_innermost name (names_in tags) ≡ bytes_eq (text_of t) name
-innermost_is tags rest t name e = ap (λ (ts : List TagName). is_innermost name (names_in ts)) e ∙ ap (λ (ns : List (List ℕ)). is_innermost name ns) (names_more rest t)
+use Rattle.tml_tree.proofs.Stacks.{tags_more}
 
 pub closed_is : (frames rest : List Frame) (f : Frame) (nodes after : List PlainNode) (end : ℕ) (name : List ℕ) → frames ≡ rest ++ f ∷ [] → bytes_eq (text_of f.name) name ≡ true
     → after ≡ (open_tag_of f).before ++ element f.span.start end (text_of f.name) (open_tag_of f).attrs (nodes_of nodes) ∷ [] → closed (open_tags_of frames) nodes end name ≡ Some (record { tags = open_tags_of rest; nodes = after })

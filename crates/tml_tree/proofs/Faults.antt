@@ -9,18 +9,18 @@ use Rattle.tml_span.specs.Whole.{IsWhole}
 use Rattle.tml_span.proofs.Excluding.{one_faults}
 use Rattle.tml_span.proofs.OneCut.{one_cut_from}
 use Rattle.tml_tree.specs.Plain.{PlainNode}
-use Rattle.tml_tree.specs.Trees.{Breaks, Document, start_of, OneAnswers, PathEnds}
+use Rattle.tml_tree.specs.Trees.{BreaksUnitRule, Document, start_of, OneTreeAnswers, PathEnds}
 use Rattle.tml_tree.specs.Whole.{FaultOf, IsTreeOf, SourceFaultAt, OneSourceAnswers}
 
 pub path_ends : PathEnds
 path_ends = λ us place kind f. ((f.broken.0, f.broken.1, (f.broken.2, f.none_before)), λ h. h.2.1 f.before [] f.element kind refl f.broken)
 
-pub one_answer : OneAnswers
+pub one_answer : OneTreeAnswers
 one_answer = λ us. record {
-  tree_or_fault = λ root place kind d f. first.none_or_fault Breaks number_of start_of us place kind d.0.1 f;
+  tree_or_fault = λ root place kind d f. first.none_or_fault BreaksUnitRule number_of start_of us place kind d.0.1 f;
   tree_or_unclosed = λ root d n. n.1 d.0;
-  fault_or_unclosed = λ place kind f n. first.none_or_fault Breaks number_of start_of us place kind n.0.2.1 f;
-  one_fault = first.one_fault Breaks number_of start_of kinds_are_numbered us;
+  fault_or_unclosed = λ place kind f n. first.none_or_fault BreaksUnitRule number_of start_of us place kind n.0.2.1 f;
+  one_fault = first.one_fault BreaksUnitRule number_of start_of kinds_are_numbered us;
 }
 
 -- ---- of a source

@@ -5,7 +5,7 @@ use Rattle.faults.specs.declared.kind.FaultKind.{FaultKind}
 use Rattle.faults.specs.declared.kind.FaultKind.TheVariants as fault
 use Rattle.faults.specs.Kinds.{number_of}
 use Rattle.tml_span.specs.Units.{Kind}
-use Rattle.tml_tree.specs.Rules.{History, is_unknown, is_unbalanced, is_misplaced, is_too_deep, is_at_fault}
+use Rattle.tml_tree.specs.Rules.{History, is_unknown_tag, is_unbalanced, is_misplaced, is_too_deep, is_at_fault}
 use Rattle.tml_tree.specs.Judging.{first_fault}
 
 abbrev pub first_of : Bool → Bool → Bool → Bool → Option FaultKind
@@ -18,7 +18,7 @@ is_in unknown unbalanced misplaced deep fault.Misplaced = misplaced
 is_in unknown unbalanced misplaced deep fault.TooDeep = deep
 is_in unknown unbalanced misplaced deep other = false
 
-in_is : (h : History) (k : Kind) (kind : FaultKind) → is_at_fault kind h k ≡ is_in (is_unknown k) (is_unbalanced h k) (is_misplaced h k) (is_too_deep h k) kind
+in_is : (h : History) (k : Kind) (kind : FaultKind) → is_at_fault kind h k ≡ is_in (is_unknown_tag k) (is_unbalanced h k) (is_misplaced h k) (is_too_deep h k) kind
 in_is h k fault.UnknownTag = refl
 in_is h k fault.Unbalanced = refl
 in_is h k fault.Misplaced = refl
@@ -73,12 +73,12 @@ first_number false false false false kind e = absurd cc
 
 module _ (h : History) (k : Kind) where
   pub no_fault : first_fault h k ≡ None → (kind : FaultKind) → is_at_fault kind h k ≡ false
-  no_fault e kind = in_is h k kind ∙ first_none (is_unknown k) (is_unbalanced h k) (is_misplaced h k) (is_too_deep h k) kind e
+  no_fault e kind = in_is h k kind ∙ first_none (is_unknown_tag k) (is_unbalanced h k) (is_misplaced h k) (is_too_deep h k) kind e
 
   pub has_fault : (kind : FaultKind) → first_fault h k ≡ Some kind → is_at_fault kind h k ≡ true
-  has_fault kind e = in_is h k kind ∙ first_some (is_unknown k) (is_unbalanced h k) (is_misplaced h k) (is_too_deep h k) kind e
+  has_fault kind e = in_is h k kind ∙ first_some (is_unknown_tag k) (is_unbalanced h k) (is_misplaced h k) (is_too_deep h k) kind e
 
   pub is_least : (kind other : FaultKind) → first_fault h k ≡ Some kind → is_at_fault other h k ≡ true → number_of kind ≤ number_of other
   is_least kind other e o =
-      let number = first_number (is_unknown k) (is_unbalanced h k) (is_misplaced h k) (is_too_deep h k) kind e in
-      omega (arith, number, at_least (is_unknown k) (is_unbalanced h k) (is_misplaced h k) (is_too_deep h k) other (sym (in_is h k other) ∙ o))
+      let number = first_number (is_unknown_tag k) (is_unbalanced h k) (is_misplaced h k) (is_too_deep h k) kind e in
+      omega (arith, number, at_least (is_unknown_tag k) (is_unbalanced h k) (is_misplaced h k) (is_too_deep h k) other (sym (in_is h k other) ∙ o))

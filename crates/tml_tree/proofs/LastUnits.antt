@@ -8,7 +8,7 @@ use Rattle.tml_span.specs.Units.{Kind, bom, declaration, doctype, comment, text,
 use Rattle.tml_tree.specs.Plain.{unit, PlainNode}
 use Rattle.tml_tree.specs.Nesting.{OpenTag, open_name, is_seen}
 use Rattle.tml_tree.specs.Stage.{Stage, step}
-use Rattle.tml_tree.specs.Trees.{Breaks, Differs, LastUnit}
+use Rattle.tml_tree.specs.Trees.{BreaksUnitRule, Differs, LastUnit}
 use Rattle.tml_tree.proofs.Running.{nests_before}
 
 tags_are : (s t : Stage) → Some s ≡ Some t → map open_name t.tags ≡ map open_name s.tags
@@ -38,6 +38,6 @@ last_unit = λ us u names seen h.
     let b = nests_before us u n.0 n.1 n.2 in (
       map open_name b.0.tags,
       is_seen b.0.tags b.0.nodes,
-      ((b.0.tags, b.0.nodes, b.1, refl, refl), none_breaks_prefix Breaks us (u ∷ []) h.1),
+      ((b.0.tags, b.0.nodes, b.1, refl, refl), none_breaks_prefix BreaksUnitRule us (u ∷ []) h.1),
       subst (λ (ns : List (List ℕ)). Differs u.kind (map open_name b.0.tags) ns) (sym n.3) (differs u.start u.end u.kind b.0.tags b.0.nodes _ b.2),
     )

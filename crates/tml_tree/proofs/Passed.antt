@@ -12,11 +12,11 @@ use Rattle.faults.specs.First.{NoneBreaks}
 use Rattle.faults.proofs.First.{none_breaks_nil}
 use Rattle.faults.specs.declared.kind.FaultKind.{FaultKind}
 use Rattle.tml_tree.specs.Plain.{unit, PlainNode, text_node, comment_node, element, none, nodes_of}
-use Rattle.tml_tree.specs.Nesting.{OpenTag, Opens, open_name, is_seen, is_content, is_element}
+use Rattle.tml_tree.specs.Nesting.{OpenTag, LeavesOpen, open_name, is_seen, is_content, is_element}
 use Rattle.tml_tree.specs.TagNames.{is_known, is_root}
 use Rattle.tml_tree.specs.Rules.{is_past_bom, is_tag, is_doctype, is_nil, History, history_of}
 use Rattle.tml_tree.specs.Stage.{Stage, step}
-use Rattle.tml_tree.specs.Trees.{Breaks, Differs, Path, Document, Unclosed, FaultAt}
+use Rattle.tml_tree.specs.Trees.{BreaksUnitRule, Differs, Path, Document, Unclosed, UnitFaultAt}
 use Rattle.tml_tree.specs.Roots.{outer, AtMostOne, EndsIn}
 use Rattle.tml_tree.specs.Judging.{HavePassed, after, first_fault, no_history, outer_names}
 use Rattle.tml_tree.proofs.Running.{opens_step}
@@ -101,12 +101,12 @@ kept_kind start end (end_tag name) before (t ∷ tags) nodes s h l e = kept_end 
 
 -- ---- the end
 
-pub unclosed_open : (us : List PlainUnit) (t : OpenTag) (tags : List OpenTag) (nodes : List PlainNode) → Opens (filter is_content us) (t ∷ tags) nodes → NoneBreaks Breaks us → Unclosed us
+pub unclosed_open : (us : List PlainUnit) (t : OpenTag) (tags : List OpenTag) (nodes : List PlainNode) → LeavesOpen (filter is_content us) (t ∷ tags) nodes → NoneBreaks BreaksUnitRule us → Unclosed us
 unclosed_open us t tags nodes h l =
     let path : Path us (open_name t ∷ map open_name tags) false = ((t ∷ tags, nodes, h, refl, refl), l) in
     ((_, _, path), λ p. let e = one_path us _ _ _ _ path p in absurd (cc (e.0)))
 
-pub unclosed_none : (us : List PlainUnit) (nodes : List PlainNode) → Opens (filter is_content us) [] nodes → NoneBreaks Breaks us → filter is_element nodes ≡ [] → Unclosed us
+pub unclosed_none : (us : List PlainUnit) (nodes : List PlainNode) → LeavesOpen (filter is_content us) [] nodes → NoneBreaks BreaksUnitRule us → filter is_element nodes ≡ [] → Unclosed us
 unclosed_none us nodes h l e =
     let path : Path us [] (list_any is_element nodes) = (([], nodes, h, refl, refl), l) in
     ((_, _, path), λ p. let q = one_path us _ _ _ _ path p in absurd (cc (q.1, some_elements nodes e)))
@@ -125,7 +125,7 @@ found (n ∷ nodes) root e = elim (is_element n) as (λ b. cond b (n ∷ filter 
   | false ↦ λ h. found nodes root h
 ] e
 
-pub document_is : (us : List PlainUnit) (root : PlainNode) (nodes : List PlainNode) → Opens (filter is_content us) [] nodes → NoneBreaks Breaks us → AtMostOne [] nodes → EndsIn root (filter is_element nodes) → Document root us
+pub document_is : (us : List PlainUnit) (root : PlainNode) (nodes : List PlainNode) → LeavesOpen (filter is_content us) [] nodes → NoneBreaks BreaksUnitRule us → AtMostOne [] nodes → EndsIn root (filter is_element nodes) → Document root us
 document_is us root nodes h l s e =
     let one = last_alone e.0 root (filter is_element nodes) e.1 s in
     ((([], nodes, h, refl, sym (found nodes root one)), l), (nodes, h, one))
@@ -134,7 +134,7 @@ document_is us root nodes h l s e =
 
 -- before the first unit
 pub passed_none : HavePassed [] [] [] no_history
-passed_none = record { opens = refl; lawful = none_breaks_nil Breaks; begun = refl; tagged = refl; doctyped = refl; names = refl; seen = refl; single = inl refl }
+passed_none = record { opens = refl; lawful = none_breaks_nil BreaksUnitRule; begun = refl; tagged = refl; doctyped = refl; names = refl; seen = refl; single = inl refl }
 
 -- what is known of units is what the rules ask about them
 history_is : (us : List PlainUnit) (tags : List OpenTag) (nodes : List PlainNode) (h : History) → HavePassed us tags nodes h → h ≡ history_of us (map open_name tags) (is_seen tags nodes)
@@ -188,6 +188,6 @@ passed_more us u tags nodes h s p sound e =
     }
 
 -- a unit that does not pass is at fault
-pub passed_not : (us rest : List PlainUnit) (u : PlainUnit) (tags : List OpenTag) (nodes : List PlainNode) (h : History) (kind : FaultKind) → HavePassed us tags nodes h → first_fault h u.kind ≡ Some kind → FaultAt (us ++ u ∷ rest) u.start kind
+pub passed_not : (us rest : List PlainUnit) (u : PlainUnit) (tags : List OpenTag) (nodes : List PlainNode) (h : History) (kind : FaultKind) → HavePassed us tags nodes h → first_fault h u.kind ≡ Some kind → UnitFaultAt (us ++ u ∷ rest) u.start kind
 passed_not us rest u tags nodes h kind p e =
     fault_at us u _ _ (path_is us tags nodes h p) rest kind (ap (λ (g : History). first_fault g u.kind) (sym (history_is us tags nodes h p)) ∙ e)

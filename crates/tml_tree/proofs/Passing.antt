@@ -6,12 +6,12 @@ use Rattle.faults.specs.First.{NoneBreaks}
 use Rattle.faults.specs.declared.kind.FaultKind.{FaultKind}
 use Rattle.tml_span.specs.Units.{Kind, bom, declaration, doctype, comment, text, start_tag, end_tag, empty_tag, PlainUnit}
 use Rattle.tml_tree.specs.Plain.{unit, PlainNode}
-use Rattle.tml_tree.specs.Nesting.{OpenTag, Opens, open_name, is_seen, is_content}
+use Rattle.tml_tree.specs.Nesting.{OpenTag, LeavesOpen, open_name, is_seen, is_content}
 use Rattle.tml_tree.specs.Roots.{AtMostOne}
 use Rattle.tml_tree.specs.Rules.{History, is_innermost, is_nil}
 use Rattle.tml_tree.specs.Stage.{Stage, step}
 use Rattle.tml_tree.specs.Judging.{HavePassed, Passes, first_fault}
-use Rattle.tml_tree.specs.Trees.{Breaks, Document, Unclosed}
+use Rattle.tml_tree.specs.Trees.{BreaksUnitRule, Document, Unclosed}
 use Rattle.tml_tree.specs.Whole.{FaultOf}
 use Rattle.tml_tree.proofs.FirstFaults.{first_of}
 use Rattle.tml_tree.proofs.Passed.{passed_more, passed_not, unclosed_open, unclosed_none, document_is, no_elements, some_elements}
@@ -52,12 +52,12 @@ refused end us rest u tags nodes h (Some f) p r = inl (rw r.1 (passed_not us res
 
 -- ---- the end
 
-whole_by : (us : List PlainUnit) (tags : List OpenTag) (nodes : List PlainNode) → Opens (filter is_content us) tags nodes → NoneBreaks Breaks us → AtMostOne tags nodes → (is_nil (map open_name tags) && is_seen tags nodes) ≡ true → (root : PlainNode) × Document root us
+whole_by : (us : List PlainUnit) (tags : List OpenTag) (nodes : List PlainNode) → LeavesOpen (filter is_content us) tags nodes → NoneBreaks BreaksUnitRule us → AtMostOne tags nodes → (is_nil (map open_name tags) && is_seen tags nodes) ≡ true → (root : PlainNode) × Document root us
 whole_by us [] nodes o l (inl none) e = let unseen = some_elements nodes none in absurd cc
 whole_by us [] nodes o l (inr one) e = (one.0, document_is us one.0 nodes o l (inr one) ([], one.1))
 whole_by us (t ∷ tags) nodes o l s e = absurd cc
 
-unclosed_by : (us : List PlainUnit) (tags : List OpenTag) (nodes : List PlainNode) → Opens (filter is_content us) tags nodes → NoneBreaks Breaks us → (is_nil (map open_name tags) && is_seen tags nodes) ≡ false → Unclosed us
+unclosed_by : (us : List PlainUnit) (tags : List OpenTag) (nodes : List PlainNode) → LeavesOpen (filter is_content us) tags nodes → NoneBreaks BreaksUnitRule us → (is_nil (map open_name tags) && is_seen tags nodes) ≡ false → Unclosed us
 unclosed_by us [] nodes o l e = unclosed_none us nodes o l (no_elements nodes e)
 unclosed_by us (t ∷ tags) nodes o l e = unclosed_open us t tags nodes o l
 

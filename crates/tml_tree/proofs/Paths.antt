@@ -9,7 +9,7 @@ use Rattle.tml_tree.specs.Plain.{PlainNode}
 use Rattle.tml_tree.specs.Nesting.{OpenTag, Nests, open_name, is_seen, is_element}
 use Rattle.tml_tree.specs.Rules.{history_of, is_at_fault}
 use Rattle.tml_tree.specs.Judging.{first_fault}
-use Rattle.tml_tree.specs.Trees.{Breaks, Path, Document, FaultAt, OneTree}
+use Rattle.tml_tree.specs.Trees.{BreaksUnitRule, Path, Document, UnitFaultAt, OneTree}
 use Rattle.tml_tree.specs.Whole.{OneTreeOfSource}
 use Rattle.tml_span.proofs.OneCut.{one_cut_from}
 use Rattle.tml_tree.proofs.FirstFaults.{no_fault, has_fault, is_least}
@@ -28,14 +28,14 @@ one_path us names others seen was h k = one_nests us names others seen was h.0 k
 -- ---- one more unit
 
 -- a unit that breaks a rule is at fault, in whichever way the units before it nest
-fault_by : (us : List PlainUnit) (u : PlainUnit) (names : List (List ℕ)) (seen : Bool) → Nests us names seen → (kind : FaultKind) → Breaks kind us u → is_at_fault kind (history_of us names seen) u.kind ≡ true
+fault_by : (us : List PlainUnit) (u : PlainUnit) (names : List (List ℕ)) (seen : Bool) → Nests us names seen → (kind : FaultKind) → BreaksUnitRule kind us u → is_at_fault kind (history_of us names seen) u.kind ≡ true
 fault_by us u names seen h kind b =
     let same = one_nests us names b.0 seen b.1 h b.2 in
     ap (λ (q : List (List ℕ) × Bool). is_at_fault kind (history_of us q.0 q.1) u.kind) (λ i. (same.0 i, same.1 i)) ∙ b.3
 
 module _ (us : List PlainUnit) (u : PlainUnit) (names : List (List ℕ)) (seen : Bool) (path : Path us names seen) where
   -- after units that have a path, a unit with a fault is the first that breaks a rule
-  pub fault_at : (rest : List PlainUnit) (kind : FaultKind) → first_fault (history_of us names seen) u.kind ≡ Some kind → FaultAt (us ++ u ∷ rest) u.start kind
+  pub fault_at : (rest : List PlainUnit) (kind : FaultKind) → first_fault (history_of us names seen) u.kind ≡ Some kind → UnitFaultAt (us ++ u ∷ rest) u.start kind
   fault_at rest kind e = record {
     before = us;
     element = u;
@@ -48,8 +48,8 @@ module _ (us : List PlainUnit) (u : PlainUnit) (names : List (List ℕ)) (seen :
   }
 
   -- and with a unit that has none they break no rule
-  pub lawful_more : first_fault (history_of us names seen) u.kind ≡ None → NoneBreaks Breaks (us ++ u ∷ [])
-  lawful_more e = none_breaks_more Breaks us u path.1 (λ kind b.
+  pub lawful_more : first_fault (history_of us names seen) u.kind ≡ None → NoneBreaks BreaksUnitRule (us ++ u ∷ [])
+  lawful_more e = none_breaks_more BreaksUnitRule us u path.1 (λ kind b.
       let here = fault_by us u names seen path.0 kind b in
       let not_here = no_fault (history_of us names seen) u.kind e kind in
       absurd cc)

@@ -12,7 +12,7 @@ use Rattle.tml_tree.specs.declared.whole.TreeFault.TheVariants as tree
 use Rattle.tml_tree.specs.Judging.{HavePassed, Refuses, first_fault}
 use Rattle.tml_tree.specs.Nesting.{OpenTag}
 use Rattle.tml_tree.specs.Plain.{PlainNode}
-use Rattle.tml_tree.specs.Pulled.{Leaves}
+use Rattle.tml_tree.specs.Pulled.{LeavesReading}
 use Rattle.tml_tree.specs.Rules.{History}
 use Rattle.tml_tree.specs.Whole.{FaultOf, HasTreeFault, UnitsFault, UnitsFaultAt, kind_and_place}
 use Rattle.tml_tree.proofs.FirstFaults.{has_fault}
@@ -28,7 +28,7 @@ never_unclosed h u e = let here = has_fault h u.kind fault.Unclosed e in absurd 
 
 -- where a unit is at fault, the reader is left at its end
 left_past_unit : (source : List ℕ) (r : Reading) (h : History) (before left : List PlainUnit) (u : PlainUnit) (f : TreeFault) → r.source ≡ source → IsReading r → Divides r (before ++ u ∷ []) left → Refuses h u.kind u.start f
-    → Leaves source r f
+    → LeavesReading source r f
 left_past_unit source r h before left u (tree.UnknownTag place) e reading d refuses = (e, before, u, left, d, sym refuses.1)
 left_past_unit source r h before left u (tree.Unbalanced place) e reading d refuses = (e, before, u, left, d, sym refuses.1)
 left_past_unit source r h before left u (tree.Unclosed place) e reading d refuses = absurd (never_unclosed h u refuses.0)
@@ -90,7 +90,7 @@ module _ {source : List ℕ} {Known : List PlainUnit → Type 0} {r s : Reading}
 
 -- the reader is left at the end of the unit that is at fault
 pub left_at_fault : {Known : List PlainUnit → Type 0} (first : Reading) {r s : Reading} (u : Unit) (history : History) (f : TreeFault) → IsReading first → HasGiven first.source Known r → GivesUnit r s (Ok (Some u)) → Refuses history (unit_of u).kind (unit_of u).start f
-    → Leaves first.source s f
+    → LeavesReading first.source s f
 left_at_fault first {r} {s} u history f reading h gives refuses =
     let next = gives.4 h.given h.left h.divides in
     let same = gives.0 ∙ h.source_is in

@@ -11,12 +11,12 @@ use Rattle.tml_span.specs.Bytes.{is_white}
 use Rattle.tml_span.specs.Units.{Attribute, text, comment, start_tag, end_tag, empty_tag, PlainUnit}
 use Rattle.tml_span.specs.Written.{tag_attributes, unit_at, units_at}
 use Rattle.tml_tree.specs.Plain.{PlainNode, PlainNodes, text_node, comment_node, element, none, more, nodes_of}
-use Rattle.tml_tree.specs.Nesting.{OpenTag, Opens, open_name, is_seen, is_content}
+use Rattle.tml_tree.specs.Nesting.{OpenTag, LeavesOpen, open_name, is_seen, is_content}
 use Rattle.tml_tree.specs.Rules.{is_tag, history_of}
 use Rattle.tml_tree.specs.TagNames.{is_known, is_link, is_root}
 use Rattle.tml_tree.specs.Stage.{Stage, step}
 use Rattle.tml_tree.specs.Judging.{first_fault}
-use Rattle.tml_tree.specs.Trees.{Breaks}
+use Rattle.tml_tree.specs.Trees.{BreaksUnitRule}
 use Rattle.tml_tree.specs.Written.{kinds_of, all_kinds, size_of, node_at, nodes_at, may_be_in_link, all_may_be_in_link, MayStand, AllMayStand}
 use Rattle.tml_tree.proofs.FirstFaults.{first_of}
 use Rattle.tml_tree.proofs.Paths.{lawful_more}
@@ -25,12 +25,12 @@ use Rattle.tml_tree.proofs.WrittenPlaces.{units_append, empty_end, inside_at, tu
 
 -- these units lead to these open tags and nodes, none of them breaks a rule, and one of them is a tag
 pub record Reaches (us : List PlainUnit) (tags : List OpenTag) (nodes : List PlainNode) : Type 0 where
-  pub opens : Opens (filter is_content us) tags nodes
-  pub lawful : NoneBreaks Breaks us
+  pub opens : LeavesOpen (filter is_content us) tags nodes
+  pub lawful : NoneBreaks BreaksUnitRule us
   pub tagged : list_any is_tag us ≡ true
 
 -- one more unit that no rule forbids, where it or one before it is a tag
-pub reaches_first : (us : List PlainUnit) (u : PlainUnit) (tags : List OpenTag) (nodes : List PlainNode) (s : Stage) → Opens (filter is_content us) tags nodes → NoneBreaks Breaks us → (list_any is_tag us || is_tag u) ≡ true
+pub reaches_first : (us : List PlainUnit) (u : PlainUnit) (tags : List OpenTag) (nodes : List PlainNode) (s : Stage) → LeavesOpen (filter is_content us) tags nodes → NoneBreaks BreaksUnitRule us → (list_any is_tag us || is_tag u) ≡ true
     → step tags nodes u ≡ Some s → first_fault (history_of us (map open_name tags) (is_seen tags nodes)) u.kind ≡ None → Reaches (us ++ u ∷ []) s.tags s.nodes
 reaches_first us u tags nodes s o l t e f = record {
   opens = opens_step us u tags nodes s o e;

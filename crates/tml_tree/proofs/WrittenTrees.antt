@@ -10,7 +10,7 @@ use Rattle.tml_tree.specs.Nesting.{is_element}
 use Rattle.tml_tree.specs.Rules.{history_of}
 use Rattle.tml_tree.specs.TagNames.{is_link}
 use Rattle.tml_tree.specs.Judging.{first_fault}
-use Rattle.tml_tree.specs.Trees.{Breaks, Document}
+use Rattle.tml_tree.specs.Trees.{BreaksUnitRule, Document}
 use Rattle.tml_tree.specs.Written.{kinds_of, size_of, node_at, MayBeRoot, root_kinds, WrittenIsRead}
 use Rattle.tml_span.proofs.Written.{written_is_cut}
 use Rattle.tml_tree.proofs.WrittenPlaces.{units_append, empty_end, inside_at}
@@ -39,13 +39,13 @@ root_reached (comment_node start end bytes) m = absurd m
 root_reached (element start end name attrs none) m =
     let first = unit_at 0 (empty_tag name attrs) in (
       subst (λ (p : ℕ). Reaches (first ∷ []) [] (element 0 p name (tag_attributes 0 name attrs) none ∷ [])) (empty_end 0 start end name attrs)
-          (reaches_first [] first [] [] _ refl (none_breaks_nil Breaks) refl refl (root_allowed name (tag_attributes 0 name attrs) m.0)),
+          (reaches_first [] first [] [] _ refl (none_breaks_nil BreaksUnitRule) refl refl (root_allowed name (tag_attributes 0 name attrs) m.0)),
       refl,
     )
 root_reached (element start end name attrs (more n ns)) m =
     let first = unit_at 0 (start_tag name attrs) in
     let t = open_at 0 name attrs [] in
-    let opened : Reaches (first ∷ []) (t ∷ []) [] = reaches_first [] first [] [] (record { tags = t ∷ []; nodes = [] }) refl (none_breaks_nil Breaks) refl refl (root_allowed name (tag_attributes 0 name attrs) m.0) in (
+    let opened : Reaches (first ∷ []) (t ∷ []) [] = reaches_first [] first [] [] (record { tags = t ∷ []; nodes = [] }) refl (none_breaks_nil BreaksUnitRule) refl refl (root_allowed name (tag_attributes 0 name attrs) m.0) in (
       element_reached 0 [] [] [] start end name attrs n ns
           (nodes_reached (more n ns) (inside_at 0 name attrs) (first ∷ []) t [] [] m.1 (λ k. absurd (both_ways (list_any is_link (name ∷ [])) (root_is_no_link name m.0) k)) opened),
       refl,

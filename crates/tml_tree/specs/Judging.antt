@@ -9,15 +9,15 @@ use Rattle.tml_tree.specs.declared.tag_name.TagName.{TagName}
 use Rattle.tml_tree.specs.declared.whole.TreeFault.{TreeFault}
 use Rattle.tml_tree.specs.TagNames.{text_of, is_link}
 use Rattle.tml_tree.specs.Plain.{PlainNode}
-use Rattle.tml_tree.specs.Nesting.{OpenTag, Opens, open_name, is_content, is_seen}
-use Rattle.tml_tree.specs.Rules.{is_past_bom, is_tag, is_doctype, is_nil, is_unknown, is_unbalanced, is_misplaced, is_too_deep, History}
-use Rattle.tml_tree.specs.Trees.{Breaks}
+use Rattle.tml_tree.specs.Nesting.{OpenTag, LeavesOpen, open_name, is_content, is_seen}
+use Rattle.tml_tree.specs.Rules.{is_past_bom, is_tag, is_doctype, is_nil, is_unknown_tag, is_unbalanced, is_misplaced, is_too_deep, History}
+use Rattle.tml_tree.specs.Trees.{BreaksUnitRule}
 use Rattle.tml_tree.specs.Roots.{AtMostOne}
 use Rattle.tml_tree.specs.Whole.{kind_and_place}
 
 -- the first fault of a unit
 abbrev pub first_fault : History → Kind → Option FaultKind
-first_fault h kind = if is_unknown kind then Some UnknownTag else if is_unbalanced h kind then Some Unbalanced else if is_misplaced h kind then Some Misplaced else if is_too_deep h kind then Some TooDeep else None
+first_fault h kind = if is_unknown_tag kind then Some UnknownTag else if is_unbalanced h kind then Some Unbalanced else if is_misplaced h kind then Some Misplaced else if is_too_deep h kind then Some TooDeep else None
 
 -- what is known before the first unit
 abbrev pub no_history : History
@@ -52,9 +52,9 @@ abbrev pub Refuses : History → Kind → ℕ → TreeFault → Type 0
 Refuses h kind place fault = IfSome (kind_and_place fault) (λ f. (first_fault h kind ≡ Some f.0) × (f.1 ≡ place))
 
 -- the tag of this name, where a start tag of this name at a place has no fault, or else its first one
-abbrev pub MayBegin : History → ℕ → List ℕ → Result TagName TreeFault → Type 0
-MayBegin h place name (Ok tag) = (first_fault h (start_tag name []) ≡ None) × (text_of tag ≡ name)
-MayBegin h place name (Err fault) = Refuses h (start_tag name []) place fault
+abbrev pub MayStartTag : History → ℕ → List ℕ → Result TagName TreeFault → Type 0
+MayStartTag h place name (Ok tag) = (first_fault h (start_tag name []) ≡ None) × (text_of tag ≡ name)
+MayStartTag h place name (Err fault) = Refuses h (start_tag name []) place fault
 
 -- of tags, the innermost last, the names, the innermost first
 abbrev pub names_in : List TagName → List (List ℕ)
@@ -67,8 +67,8 @@ OnlyInnermost (n ∷ ns) = list_any is_link ns ≡ false
 
 -- No unit breaks a rule. They make these nodes after the start of the innermost of these open tags, and this is known of them.
 pub record HavePassed (us : List PlainUnit) (tags : List OpenTag) (nodes : List PlainNode) (h : History) : Type 0 where
-  pub opens : Opens (filter is_content us) tags nodes
-  pub lawful : NoneBreaks Breaks us
+  pub opens : LeavesOpen (filter is_content us) tags nodes
+  pub lawful : NoneBreaks BreaksUnitRule us
   pub begun : h.begun ≡ list_any is_past_bom us
   pub tagged : h.tagged ≡ list_any is_tag us
   pub doctyped : h.doctyped ≡ list_any is_doctype us

@@ -32,9 +32,9 @@ abbrev pub open_name : OpenTag → List ℕ
 open_name t = t.name
 
 -- whole items, and for each open tag, the innermost first, its start tag and then whole items
-abbrev pub Opens : List PlainUnit → List OpenTag → List PlainNode → Type 0
-Opens us [] nodes = Items (nodes_of nodes) us
-Opens us (t ∷ ts) nodes = (prefix : List PlainUnit) × (suffix : List PlainUnit) × (us ≡ prefix ++ tag_unit t ∷ suffix) × Opens prefix ts t.before × Items (nodes_of nodes) suffix
+abbrev pub LeavesOpen : List PlainUnit → List OpenTag → List PlainNode → Type 0
+LeavesOpen us [] nodes = Items (nodes_of nodes) us
+LeavesOpen us (t ∷ ts) nodes = (prefix : List PlainUnit) × (suffix : List PlainUnit) × (us ≡ prefix ++ tag_unit t ∷ suffix) × LeavesOpen prefix ts t.before × Items (nodes_of nodes) suffix
 
 -- a Bom, a declaration and a doctype are part of no item
 abbrev pub is_content : PlainUnit → Bool
@@ -51,4 +51,4 @@ is_seen (t ∷ ts) nodes = false
 
 -- by nesting alone the tags of these names are open, the innermost first, and the root was or was not seen whole
 abbrev pub Nests : List PlainUnit → List (List ℕ) → Bool → Type 0
-Nests us names seen = (tags : List OpenTag) × (nodes : List PlainNode) × Opens (filter is_content us) tags nodes × (names ≡ map open_name tags) × (seen ≡ is_seen tags nodes)
+Nests us names seen = (tags : List OpenTag) × (nodes : List PlainNode) × LeavesOpen (filter is_content us) tags nodes × (names ≡ map open_name tags) × (seen ≡ is_seen tags nodes)

@@ -18,10 +18,10 @@ abbrev pub IsInside : List ℕ → Reading → Type 0
 IsInside source r = (r.source ≡ source) × IsReading r
 
 -- After a fault at the end of the unit at fault; where the root is not closed at the end of the source.
-abbrev pub Leaves : List ℕ → Reading → TreeFault → Type 0
-Leaves source r (tree.UnknownTag place) = IsPastUnit source place r
-Leaves source r (tree.Unbalanced place) = IsPastUnit source place r
-Leaves source r (tree.Unclosed place) = IsAtEnd source r
-Leaves source r (tree.Misplaced place) = IsPastUnit source place r
-Leaves source r (tree.TooDeep place) = IsPastUnit source place r
-Leaves source r tree.Memory = IsInside source r
+abbrev pub LeavesReading : List ℕ → Reading → TreeFault → Type 0
+LeavesReading source r (tree.UnknownTag place) = IsPastUnit source place r
+LeavesReading source r (tree.Unbalanced place) = IsPastUnit source place r
+LeavesReading source r (tree.Unclosed place) = IsAtEnd source r
+LeavesReading source r (tree.Misplaced place) = IsPastUnit source place r
+LeavesReading source r (tree.TooDeep place) = IsPastUnit source place r
+LeavesReading source r tree.Memory = IsInside source r

@@ -41,10 +41,10 @@ abbrev pub history_of : List PlainUnit → List (List ℕ) → Bool → History
 history_of before names seen = record { begun = list_any is_past_bom before; tagged = list_any is_tag before; doctyped = list_any is_doctype before; names = names; seen = seen }
 
 -- a start or empty tag whose name is not known
-abbrev pub is_unknown : Kind → Bool
-is_unknown (start_tag name attrs) = not (is_known name)
-is_unknown (empty_tag name attrs) = not (is_known name)
-is_unknown kind = false
+abbrev pub is_unknown_tag : Kind → Bool
+is_unknown_tag (start_tag name attrs) = not (is_known name)
+is_unknown_tag (empty_tag name attrs) = not (is_known name)
+is_unknown_tag kind = false
 
 -- an end tag whose name is not that of the innermost open tag
 abbrev pub is_unbalanced : History → Kind → Bool
@@ -76,7 +76,7 @@ is_too_deep h kind = false
 
 -- a unit is at fault in this way; the other kinds of fault are not those of a unit
 abbrev pub is_at_fault : FaultKind → History → Kind → Bool
-is_at_fault fault.UnknownTag h kind = is_unknown kind
+is_at_fault fault.UnknownTag h kind = is_unknown_tag kind
 is_at_fault fault.Unbalanced h kind = is_unbalanced h kind
 is_at_fault fault.Misplaced h kind = is_misplaced h kind
 is_at_fault fault.TooDeep h kind = is_too_deep h kind

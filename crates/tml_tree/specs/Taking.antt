@@ -25,9 +25,9 @@ abbrev pub RefusesUnit : Builder → PlainUnit → TreeFault → Type 0
 RefusesUnit b u fault = Refuses b.nesting u.kind u.start fault
 
 -- the open tags have the names that are known to be open
-abbrev pub Agrees : Builder → Type 0
-Agrees b = b.nesting.names ≡ names_of b.frames.items
+abbrev pub KnowsOpenNames : Builder → Type 0
+KnowsOpenNames b = b.nesting.names ≡ names_of b.frames.items
 
 -- what a builder knows of the units that it has taken
-abbrev pub HasTaken : List PlainUnit → Builder → Type 0
-HasTaken us b = HavePassed us (open_tags_of b.frames.items) (map node_of b.nodes.items) b.nesting
+abbrev pub HasBuilt : List PlainUnit → Builder → Type 0
+HasBuilt us b = HavePassed us (open_tags_of b.frames.items) (map node_of b.nodes.items) b.nesting

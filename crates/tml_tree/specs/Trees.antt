@@ -1,35 +1,35 @@
 -- Paths, the tree of a document and the first fault.
 use Rattle.std.specs.Prelude.{◌≡◌, ℕ, Bool, true, List, [], ◌∷◌, ◌++◌}
 use Rattle.std.specs.List.{filter}
-use Rattle.faults.specs.First.{FirstFault, NoneBreaks}
+use Rattle.faults.specs.First.{FirstBrokenRule, NoneBreaks}
 use Rattle.faults.specs.Kinds.{number_of}
 use Rattle.faults.specs.declared.kind.FaultKind.{FaultKind}
 use Rattle.tml_span.specs.Units.{Kind, start_tag, end_tag, PlainUnit}
 use Rattle.tml_tree.specs.Plain.{PlainNode}
-use Rattle.tml_tree.specs.Nesting.{Opens, Nests, is_content, is_element}
+use Rattle.tml_tree.specs.Nesting.{LeavesOpen, Nests, is_content, is_element}
 use Rattle.tml_tree.specs.Rules.{history_of, is_at_fault}
 
 -- the units before this one nest, and given these it is at fault in this way
-abbrev pub Breaks : FaultKind → List PlainUnit → PlainUnit → Type 0
-Breaks kind before u = (names : List (List ℕ)) × (seen : Bool) × Nests before names seen × (is_at_fault kind (history_of before names seen) u.kind ≡ true)
+abbrev pub BreaksUnitRule : FaultKind → List PlainUnit → PlainUnit → Type 0
+BreaksUnitRule kind before u = (names : List (List ℕ)) × (seen : Bool) × Nests before names seen × (is_at_fault kind (history_of before names seen) u.kind ≡ true)
 
 -- the units nest, and none breaks a rule
 abbrev pub Path : List PlainUnit → List (List ℕ) → Bool → Type 0
-Path us names seen = Nests us names seen × NoneBreaks Breaks us
+Path us names seen = Nests us names seen × NoneBreaks BreaksUnitRule us
 
 abbrev pub HasPath : List PlainUnit → Type 0
 HasPath us = (names : List (List ℕ)) × (seen : Bool) × Path us names seen
 
 -- the units have a path on which the root was seen whole, and it is the element among the items
 abbrev pub Document : PlainNode → List PlainUnit → Type 0
-Document root us = Path us [] true × ((nodes : List PlainNode) × Opens (filter is_content us) [] nodes × (filter is_element nodes ≡ root ∷ []))
+Document root us = Path us [] true × ((nodes : List PlainNode) × LeavesOpen (filter is_content us) [] nodes × (filter is_element nodes ≡ root ∷ []))
 
 abbrev pub start_of : PlainUnit → ℕ
 start_of u = u.start
 
 -- at a place begins the first unit that breaks a rule
-abbrev pub FaultAt : List PlainUnit → ℕ → FaultKind → Type 0
-FaultAt us place kind = FirstFault Breaks number_of start_of us place kind
+abbrev pub UnitFaultAt : List PlainUnit → ℕ → FaultKind → Type 0
+UnitFaultAt us place kind = FirstBrokenRule BreaksUnitRule number_of start_of us place kind
 
 -- the units have a path, but none on which the root was seen whole
 abbrev pub Unclosed : List PlainUnit → Type 0
@@ -51,18 +51,18 @@ OnePath = (us : List PlainUnit) (names others : List (List ℕ)) (seen was : Boo
 
 -- the units before one at fault have a path, and with it they have none
 abbrev pub PathEnds : Type 0
-PathEnds = (us : List PlainUnit) (place : ℕ) (kind : FaultKind) (f : FaultAt us place kind) → HasPath f.before × (HasPath (f.before ++ f.element ∷ []) → ⊥)
+PathEnds = (us : List PlainUnit) (place : ℕ) (kind : FaultKind) (f : UnitFaultAt us place kind) → HasPath f.before × (HasPath (f.before ++ f.element ∷ []) → ⊥)
 
 -- units make one tree
 abbrev pub OneTree : Type 0
 OneTree = (us : List PlainUnit) (root other : PlainNode) → Document root us → Document other us → root ≡ other
 
 -- a tree, a fault and a root that is not closed exclude each other, and of faults there is one
-pub record OneAnswer (us : List PlainUnit) : Type 0 where
-  pub tree_or_fault : (root : PlainNode) (place : ℕ) (kind : FaultKind) → Document root us → FaultAt us place kind → ⊥
+pub record OneTreeAnswer (us : List PlainUnit) : Type 0 where
+  pub tree_or_fault : (root : PlainNode) (place : ℕ) (kind : FaultKind) → Document root us → UnitFaultAt us place kind → ⊥
   pub tree_or_unclosed : (root : PlainNode) → Document root us → Unclosed us → ⊥
-  pub fault_or_unclosed : (place : ℕ) (kind : FaultKind) → FaultAt us place kind → Unclosed us → ⊥
-  pub one_fault : (place other : ℕ) (kind same : FaultKind) → FaultAt us place kind → FaultAt us other same → (place ≡ other) × (kind ≡ same)
+  pub fault_or_unclosed : (place : ℕ) (kind : FaultKind) → UnitFaultAt us place kind → Unclosed us → ⊥
+  pub one_fault : (place other : ℕ) (kind same : FaultKind) → UnitFaultAt us place kind → UnitFaultAt us other same → (place ≡ other) × (kind ≡ same)
 
-abbrev pub OneAnswers : Type 0
-OneAnswers = (us : List PlainUnit) → OneAnswer us
+abbrev pub OneTreeAnswers : Type 0
+OneTreeAnswers = (us : List PlainUnit) → OneTreeAnswer us

@@ -8,7 +8,7 @@ use Rattle.tml_span.specs.Faults.{CutFault}
 use Rattle.tml_tree.specs.declared.whole.TreeFault.{TreeFault}
 use Rattle.tml_tree.specs.declared.whole.TreeFault.TheVariants as tree
 use Rattle.tml_tree.specs.Plain.{PlainNode}
-use Rattle.tml_tree.specs.Trees.{Document, FaultAt, Unclosed}
+use Rattle.tml_tree.specs.Trees.{Document, UnitFaultAt, Unclosed}
 
 -- the tree of a source: that of all its units
 abbrev pub IsTreeOf : List ℕ → PlainNode → Type 0
@@ -29,7 +29,7 @@ kind_and_place tree.Memory = None
 
 -- a fault of units whose source has this length: the first unit that breaks a rule, or at the end a root that is not closed
 abbrev pub FaultOf : ℕ → List PlainUnit → ℕ → FaultKind → Type 0
-FaultOf end us place kind = FaultAt us place kind ⊎ ((kind ≡ fault.Unclosed) × (place ≡ end) × Unclosed us)
+FaultOf end us place kind = UnitFaultAt us place kind ⊎ ((kind ≡ fault.Unclosed) × (place ≡ end) × Unclosed us)
 
 -- what a fault says of units whose source has this length
 abbrev pub UnitsFault : ℕ → List PlainUnit → TreeFault → Type 0

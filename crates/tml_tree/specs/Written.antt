@@ -3,7 +3,7 @@ use Rattle.std.specs.Prelude.{◌≡◌, ℕ, ◌+◌, ◌<◌, Bool, true, fals
 use Rattle.std.specs.List.{list_all}
 use Rattle.tml_span.specs.Bytes.{is_white}
 use Rattle.tml_span.specs.Units.{Kind, text, comment, start_tag, end_tag, empty_tag}
-use Rattle.tml_span.specs.Written.{AreWritable, kind_text, tag_attributes, written}
+use Rattle.tml_span.specs.Written.{AreWritable, unit_text, tag_attributes, written}
 use Rattle.tml_tree.specs.Plain.{PlainNode, PlainNodes, text_node, comment_node, element, none, more}
 use Rattle.tml_tree.specs.TagNames.{is_known, is_link, is_root}
 use Rattle.tml_tree.specs.Whole.{IsTreeOf}
@@ -36,7 +36,7 @@ abbrev mutual
       element place (place + size_of (element start end name attrs none)) name (tag_attributes place name attrs) none
   node_at place (element start end name attrs (more n ns)) =
       element place (place + size_of (element start end name attrs (more n ns))) name (tag_attributes place name attrs)
-      (nodes_at (place + length (kind_text (start_tag name attrs))) (more n ns))
+      (nodes_at (place + length (unit_text (start_tag name attrs))) (more n ns))
 
   pub nodes_at : ℕ → PlainNodes → PlainNodes
   nodes_at place none = none

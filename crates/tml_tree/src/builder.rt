@@ -6,7 +6,7 @@ ghost use Rattle.tml_span.specs.View.{unit_of};
 ghost use Rattle.tml_tree.specs.Plain.{element};
 ghost use Rattle.tml_tree.specs.Trees.{Document, Unclosed};
 ghost use Rattle.tml_tree.specs.Roots.{EndsIn};
-ghost use Rattle.tml_tree.specs.Taking.{Agrees, HasTaken, RefusesUnit, TakesUnit};
+ghost use Rattle.tml_tree.specs.Taking.{KnowsOpenNames, HasBuilt, RefusesUnit, TakesUnit};
 ghost use Rattle.tml_tree.specs.View.{node_of, tag_node};
 ghost use Rattle.tml_tree.specs.Building.{at_span, element_of, elements_in, empty_unit, start_unit};
 
@@ -85,7 +85,7 @@ fn root_of<'s>(nodes: Vec<Node<'s>>) -> Option<Tag<'s>>
 
 impl<'s> Builder<'s> {
     pub fn new(alloc: Global) -> Builder<'s>
-        ensures { HasTaken [] result }
+        ensures { HasBuilt [] result }
     {
         Builder {
             nesting: Nesting::new(alloc),
@@ -96,7 +96,7 @@ impl<'s> Builder<'s> {
 
     /// Takes one more unit, or says what its fault is.
     pub fn take(&mut self, alloc: Global, unit: Unit<'s>) -> Result<(), TreeFault>
-        requires { Agrees self.old }
+        requires { KnowsOpenNames self.old }
         ensures ok { OnOk result (TakesUnit self.old (unit_of unit.entry) self.new) }
         ensures err { IfErr result (λ e. RefusesUnit self.old (unit_of unit.entry) e) }
     {
@@ -114,8 +114,8 @@ impl<'s> Builder<'s> {
 
     /// The root, where it was seen whole.
     pub fn finish(self) -> Option<Tag<'s>>
-        ensures none { IsNone result → (us : ListOf PlainUnit) → HasTaken us self.entry → Unclosed us }
-        ensures some { IfSome result (λ t. (us : ListOf PlainUnit) → HasTaken us self.entry → Document (tag_node t) us) }
+        ensures none { IsNone result → (us : ListOf PlainUnit) → HasBuilt us self.entry → Unclosed us }
+        ensures some { IfSome result (λ t. (us : ListOf PlainUnit) → HasBuilt us self.entry → Document (tag_node t) us) }
     {
         if !self.frames.is_empty() {
             return None;
@@ -200,7 +200,7 @@ impl<'s> Builder<'s> {
     }
 
     fn end(&mut self, span: Span, name: &[u8]) -> Result<(), TreeFault>
-        requires { Agrees self.old }
+        requires { KnowsOpenNames self.old }
         ensures ok { OnOk result (TakesUnit self.old (at_span span (units.end_tag name.now)) self.new) }
         ensures err { IfErr result (λ e. RefusesUnit self.old (at_span span (units.end_tag name.now)) e) }
     {

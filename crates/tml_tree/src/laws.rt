@@ -2,7 +2,7 @@
 ghost use Rattle.std.specs.Prelude.{List, ℕ};
 ghost use Rattle.tml_span.specs.Units.{PlainUnit};
 ghost use Rattle.tml_tree.specs.Places.{TreeIsLaidOut};
-ghost use Rattle.tml_tree.specs.Trees.{LastUnit, OneAnswers, OnePath, OneTree, PathEnds};
+ghost use Rattle.tml_tree.specs.Trees.{LastUnit, OneTreeAnswers, OnePath, OneTree, PathEnds};
 ghost use Rattle.tml_tree.specs.Walking.{ElementsAreTags};
 ghost use Rattle.tml_tree.specs.Whole.{HaveTreeOrFault, OneSourceAnswers, OneTreeOfSource, TreeOrFault};
 ghost use Rattle.tml_tree.specs.Written.{WrittenIsRead};
@@ -40,7 +40,7 @@ pub fn one_tree_of_source()
 
 /// A tree and each of the faults exclude each other, and units have one fault at most.
 pub fn one_answer()
-    ensures { OneAnswers }
+    ensures { OneTreeAnswers }
 {}
 
 /// A tree and a fault of a source exclude each other, and a source has one fault at most.

@@ -5,7 +5,7 @@ ghost use Rattle.std.specs.Str.{bytes_eq};
 ghost use Rattle.tml_span.specs.Bytes.{is_white};
 ghost use Rattle.tml_span.specs.Units as units;
 ghost use Rattle.tml_tree.specs.Judging as judging;
-ghost use Rattle.tml_tree.specs.Judging.{MayBegin, Passes, Refuses};
+ghost use Rattle.tml_tree.specs.Judging.{MayStartTag, Passes, Refuses};
 ghost use Rattle.tml_tree.specs.Rules as rules;
 ghost use Rattle.tml_tree.specs.TagNames as names;
 
@@ -201,7 +201,7 @@ impl Nesting {
     /// The tag of this name, or the first fault of a start or empty tag of this name at a place.
     #[inline(always)]
     fn tag(&self, place: u32, name: &[u8]) -> Result<TagName, TreeFault>
-        ensures { MayBegin self.now place name.now result }
+        ensures { MayStartTag self.now place name.now result }
     {
         let Some(tag) = TagName::of(name) else {
             return Err(TreeFault::UnknownTag { place });

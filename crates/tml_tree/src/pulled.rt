@@ -3,7 +3,7 @@ ghost use Rattle.std.specs.Prelude.{◌≡◌, IfOk, IfErr, OnOk};
 ghost use Rattle.tml_span.specs.Reader.{IsReading};
 ghost use Rattle.tml_tree.specs.View.{tag_node};
 ghost use Rattle.tml_tree.specs.Whole.{IsTreeOf, HasTreeFault};
-ghost use Rattle.tml_tree.specs.Pulled.{IsAtEnd, Leaves};
+ghost use Rattle.tml_tree.specs.Pulled.{IsAtEnd, LeavesReading};
 
 use crate::builder::Builder;
 use crate::{Tag, TreeFault};
@@ -17,7 +17,7 @@ pub fn root_from<'s>(alloc: Global, reader: &mut UnitReader<'s>) -> Result<Tag<'
     ensures ok { IfOk result (λ t. IsTreeOf reader.old.source (tag_node t)) }
     ensures fault { IfErr result (λ e. HasTreeFault reader.old.source e) }
     ensures ends { OnOk result (IsAtEnd reader.old.source reader.new) }
-    ensures leaves { IfErr result (λ e. Leaves reader.old.source reader.new e) }
+    ensures leaves { IfErr result (λ e. LeavesReading reader.old.source reader.new e) }
 {
     let mut builder = Builder::new(alloc);
     loop {

@@ -1,6 +1,6 @@
 //! A tree with its source.
 ghost use Rattle.std.specs.Prelude.{◌≡◌, ◌<◌, length, IfOk, IfErr, OnOk};
-ghost use Rattle.tml_tree.specs.Pulled.{IsAtEnd, Leaves};
+ghost use Rattle.tml_tree.specs.Pulled.{IsAtEnd, LeavesReading};
 ghost use Rattle.tml_tree.specs.Whole.{IsTreeOf, HasUnitFault, HasTreeFault};
 
 use crate::pulled::root_from;
@@ -60,7 +60,7 @@ pub fn tree_from<'s>(alloc: Global, reader: &mut UnitReader<'s>) -> Result<TagTr
     ensures source { IfOk result (λ t. t ≡ reader.old.source) }
     ensures fault { IfErr result (λ e. HasTreeFault reader.old.source e) }
     ensures ends { OnOk result (IsAtEnd reader.old.source reader.new) }
-    ensures leaves { IfErr result (λ e. Leaves reader.old.source reader.new e) }
+    ensures leaves { IfErr result (λ e. LeavesReading reader.old.source reader.new e) }
 {
     let source = reader.source();
     let root = root_from(alloc, reader)?;

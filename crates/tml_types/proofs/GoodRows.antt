@@ -8,10 +8,6 @@ use Rattle.tml_types.specs.Rules.{is_absent, is_unfit}
 use Rattle.tml_types.specs.Table.{any_text}
 use Rattle.tml_types.specs.Values.{is_identifier, is_of_form}
 
--- neither of two tests passes
-pub neither : (x y : Bool) → x ≡ false → y ≡ false → (x || y) ≡ false
-neither x y h k = rw (h, k) refl
-
 -- each text is any text
 pub any_fits : (value : Option (List ℕ)) → is_unfit (is_of_form any_text) value ≡ false
 any_fits None = refl

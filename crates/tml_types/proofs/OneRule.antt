@@ -16,24 +16,24 @@ use Rattle.tml_types.specs.declared.walk.TypeFault.TheVariants as faults
 use Rattle.tml_types.specs.declared.typed.TagKind.TheVariants as kind
 use Rattle.tml_types.specs.Content.{Content, PlainTyped, event, instance, timex, signal, tlink, alink, slink}
 use Rattle.tml_types.specs.References.{kind_of, tag_name}
-use Rattle.tml_types.specs.Rules.{Breaks, BreaksAfter, IsNoDate, IsSound, is_bad, is_conflict, is_missing, is_repeated}
-use Rattle.tml_types.specs.Table.{rows_at, rows_of}
+use Rattle.tml_types.specs.Rules.{BreaksTagRule, BreaksAfter, IsNoDate, BreaksNoTagRule, is_bad, is_conflict, is_missing, is_repeated}
+use Rattle.tml_types.specs.Table.{rows_at, attribute_rows}
 use Rattle.tml_types.specs.Typing.{HasFields, IsValueOf, TypedAs}
 use Rattle.tml_types.specs.Values.{value_of}
-use Rattle.tml_types.specs.Walking.{ReadsTag, Refuses, tag_at}
+use Rattle.tml_types.specs.Walking.{ReadsTag, RefusesTag, tag_at}
 use Rattle.tml_types.proofs.KindNames.{names_differ}
-use Rattle.tml_types.specs.Whole.{FaultAt, HasTagFault, place_of}
+use Rattle.tml_types.specs.Whole.{TagFaultAt, HasTagFault, place_of}
 
 pub known : AreApart text_of all_tags
 known = search rules
 
 -- the rows of the tag that a text names
-pub rows_named : (text : List ℕ) (o : Option TagName) → named_of text_of all_tags text ≡ o → rows_at text ≡ (elim o [ None ↦ [] | Some t ↦ rows_of t ])
+pub rows_named : (text : List ℕ) (o : Option TagName) → named_of text_of all_tags text ≡ o → rows_at text ≡ (elim o [ None ↦ [] | Some t ↦ attribute_rows t ])
 unfolding rows_at
-rows_named text o e = ap (λ (o : Option TagName). elim o [ None ↦ [] | Some t ↦ rows_of t ]) e
+rows_named text o e = ap (λ (o : Option TagName). elim o [ None ↦ [] | Some t ↦ attribute_rows t ]) e
 
 -- the rows of a known tag
-pub rows_known : (name : TagName) → rows_at (text_of name) ≡ rows_of name
+pub rows_known : (name : TagName) → rows_at (text_of name) ≡ attribute_rows name
 rows_known name = rows_named (text_of name) (Some name) (known name)
 
 -- ---- the first rule that is broken
@@ -42,17 +42,17 @@ module _ (name : TagName) (attrs : List Attribute) (place : ℕ) where
   at : PlainTag
   at = tag_at place name attrs
 
-  missing_is : {b : _} → list_any (is_missing attrs) (rows_of name) ≡ b → list_any (is_missing attrs) (rows_at (text_of name)) ≡ b
+  missing_is : {b : _} → list_any (is_missing attrs) (attribute_rows name) ≡ b → list_any (is_missing attrs) (rows_at (text_of name)) ≡ b
   missing_is h = rw (rows_known name) h
 
-  bad_is : {b : _} → list_any (is_bad attrs) (rows_of name) ≡ b → list_any (is_bad attrs) (rows_at (text_of name)) ≡ b
+  bad_is : {b : _} → list_any (is_bad attrs) (attribute_rows name) ≡ b → list_any (is_bad attrs) (rows_at (text_of name)) ≡ b
   bad_is h = rw (rows_known name) h
 
-  conflict_is : {b : _} → list_any (is_conflict attrs) (rows_of name) ≡ b → list_any (is_conflict attrs) (rows_at (text_of name)) ≡ b
+  conflict_is : {b : _} → list_any (is_conflict attrs) (attribute_rows name) ≡ b → list_any (is_conflict attrs) (rows_at (text_of name)) ≡ b
   conflict_is h = rw (rows_known name) h
 
-  pub repeated_fault : is_repeated attrs ≡ true → FaultAt (tag_at place name attrs ∷ []) place kinds.RepeatedAttribute
-  repeated_fault h = fault_of_one BreaksAfter number_of place_of (tag_at place name attrs) kinds.RepeatedAttribute h (λ other. elim other as (λ k. Breaks k (tag_at place name attrs) → 9 ≤ number_of k) [
+  pub repeated_fault : is_repeated attrs ≡ true → TagFaultAt (tag_at place name attrs ∷ []) place kinds.RepeatedAttribute
+  repeated_fault h = fault_of_one BreaksAfter number_of place_of (tag_at place name attrs) kinds.RepeatedAttribute h (λ other. elim other as (λ k. BreaksTagRule k (tag_at place name attrs) → 9 ≤ number_of k) [
     | kinds.RepeatedAttribute ↦ λ b. omega arith
     | kinds.MissingAttribute ↦ λ b. omega arith
     | kinds.BadValue ↦ λ b. omega arith
@@ -61,8 +61,8 @@ module _ (name : TagName) (attrs : List Attribute) (place : ℕ) where
     | _ ↦ λ b. absurd b
   ])
 
-  missing_fault : is_repeated attrs ≡ false → list_any (is_missing attrs) (rows_of name) ≡ true → FaultAt (tag_at place name attrs ∷ []) place kinds.MissingAttribute
-  missing_fault r m = fault_of_one BreaksAfter number_of place_of (tag_at place name attrs) kinds.MissingAttribute (missing_is m) (λ other. elim other as (λ k. Breaks k (tag_at place name attrs) → 10 ≤ number_of k) [
+  missing_fault : is_repeated attrs ≡ false → list_any (is_missing attrs) (attribute_rows name) ≡ true → TagFaultAt (tag_at place name attrs ∷ []) place kinds.MissingAttribute
+  missing_fault r m = fault_of_one BreaksAfter number_of place_of (tag_at place name attrs) kinds.MissingAttribute (missing_is m) (λ other. elim other as (λ k. BreaksTagRule k (tag_at place name attrs) → 10 ≤ number_of k) [
     | kinds.RepeatedAttribute ↦ λ b. absurd (cc (r, b))
     | kinds.MissingAttribute ↦ λ b. omega arith
     | kinds.BadValue ↦ λ b. omega arith
@@ -71,8 +71,8 @@ module _ (name : TagName) (attrs : List Attribute) (place : ℕ) where
     | _ ↦ λ b. absurd b
   ])
 
-  bad_fault : is_repeated attrs ≡ false → list_any (is_missing attrs) (rows_of name) ≡ false → list_any (is_bad attrs) (rows_of name) ≡ true → FaultAt (tag_at place name attrs ∷ []) place kinds.BadValue
-  bad_fault r m h = let none = missing_is m in fault_of_one BreaksAfter number_of place_of (tag_at place name attrs) kinds.BadValue (bad_is h) (λ other. elim other as (λ k. Breaks k (tag_at place name attrs) → 11 ≤ number_of k) [
+  bad_fault : is_repeated attrs ≡ false → list_any (is_missing attrs) (attribute_rows name) ≡ false → list_any (is_bad attrs) (attribute_rows name) ≡ true → TagFaultAt (tag_at place name attrs ∷ []) place kinds.BadValue
+  bad_fault r m h = let none = missing_is m in fault_of_one BreaksAfter number_of place_of (tag_at place name attrs) kinds.BadValue (bad_is h) (λ other. elim other as (λ k. BreaksTagRule k (tag_at place name attrs) → 11 ≤ number_of k) [
     | kinds.RepeatedAttribute ↦ λ b. absurd (cc (r, b))
     | kinds.MissingAttribute ↦ λ b. absurd (cc (none, b))
     | kinds.BadValue ↦ λ b. omega arith
@@ -81,9 +81,9 @@ module _ (name : TagName) (attrs : List Attribute) (place : ℕ) where
     | _ ↦ λ b. absurd b
   ])
 
-  conflict_fault : is_repeated attrs ≡ false → list_any (is_missing attrs) (rows_of name) ≡ false → list_any (is_bad attrs) (rows_of name) ≡ false → list_any (is_conflict attrs) (rows_of name) ≡ true
-      → FaultAt (tag_at place name attrs ∷ []) place kinds.Conflict
-  conflict_fault r m g h = let none = missing_is m in let good = bad_is g in fault_of_one BreaksAfter number_of place_of (tag_at place name attrs) kinds.Conflict (conflict_is h) (λ other. elim other as (λ k. Breaks k (tag_at place name attrs) → 12 ≤ number_of k) [
+  conflict_fault : is_repeated attrs ≡ false → list_any (is_missing attrs) (attribute_rows name) ≡ false → list_any (is_bad attrs) (attribute_rows name) ≡ false → list_any (is_conflict attrs) (attribute_rows name) ≡ true
+      → TagFaultAt (tag_at place name attrs ∷ []) place kinds.Conflict
+  conflict_fault r m g h = let none = missing_is m in let good = bad_is g in fault_of_one BreaksAfter number_of place_of (tag_at place name attrs) kinds.Conflict (conflict_is h) (λ other. elim other as (λ k. BreaksTagRule k (tag_at place name attrs) → 12 ≤ number_of k) [
     | kinds.RepeatedAttribute ↦ λ b. absurd (cc (r, b))
     | kinds.MissingAttribute ↦ λ b. absurd (cc (none, b))
     | kinds.BadValue ↦ λ b. absurd (cc (good, b))
@@ -92,9 +92,9 @@ module _ (name : TagName) (attrs : List Attribute) (place : ℕ) where
     | _ ↦ λ b. absurd b
   ])
 
-  date_fault : is_repeated attrs ≡ false → list_any (is_missing attrs) (rows_of name) ≡ false → list_any (is_bad attrs) (rows_of name) ≡ false → list_any (is_conflict attrs) (rows_of name) ≡ false
-      → name ≡ tag.Timex3 → IsNoDate (value_of (codes "value") attrs) → FaultAt (tag_at place name attrs ∷ []) place kinds.BadDate
-  date_fault r m g c n d = let none = missing_is m in let good = bad_is g in let one = conflict_is c in fault_of_one BreaksAfter number_of place_of (tag_at place name attrs) kinds.BadDate (ap text_of n, d) (λ other. elim other as (λ k. Breaks k (tag_at place name attrs) → 13 ≤ number_of k) [
+  date_fault : is_repeated attrs ≡ false → list_any (is_missing attrs) (attribute_rows name) ≡ false → list_any (is_bad attrs) (attribute_rows name) ≡ false → list_any (is_conflict attrs) (attribute_rows name) ≡ false
+      → name ≡ tag.Timex3 → IsNoDate (value_of (codes "value") attrs) → TagFaultAt (tag_at place name attrs ∷ []) place kinds.BadDate
+  date_fault r m g c n d = let none = missing_is m in let good = bad_is g in let one = conflict_is c in fault_of_one BreaksAfter number_of place_of (tag_at place name attrs) kinds.BadDate (ap text_of n, d) (λ other. elim other as (λ k. BreaksTagRule k (tag_at place name attrs) → 13 ≤ number_of k) [
     | kinds.RepeatedAttribute ↦ λ b. absurd (cc (r, b))
     | kinds.MissingAttribute ↦ λ b. absurd (cc (none, b))
     | kinds.BadValue ↦ λ b. absurd (cc (good, b))
@@ -103,7 +103,7 @@ module _ (name : TagName) (attrs : List Attribute) (place : ℕ) where
     | _ ↦ λ b. absurd b
   ])
 
-  pub refused : (fault : TypeFault) → is_repeated attrs ≡ false → Refuses name attrs place fault → HasTagFault (tag_at place name attrs ∷ []) fault
+  pub refused : (fault : TypeFault) → is_repeated attrs ≡ false → RefusesTag name attrs place fault → HasTagFault (tag_at place name attrs ∷ []) fault
   refused (faults.RepeatedAttribute p) r h = absurd h
   refused (faults.MissingAttribute p) r h = rw (h.0) (missing_fault r h.1)
   refused (faults.BadValue p) r h = rw (h.0) (bad_fault r h.1 h.2)
@@ -119,9 +119,9 @@ module _ (name : TagName) (attrs : List Attribute) (place : ℕ) where
   dated (Some text) None h d = h
   dated (Some text) (Some v) h d = valuing.value_or_bad text v h d
 
-  pub sound_by : is_repeated attrs ≡ false → list_any (is_missing attrs) (rows_of name) ≡ false → list_any (is_bad attrs) (rows_of name) ≡ false → list_any (is_conflict attrs) (rows_of name) ≡ false
-      → (Breaks kinds.BadDate (tag_at place name attrs) → ⊥) → IsSound (tag_at place name attrs)
-  sound_by r m g c d = let none = missing_is m in let good = bad_is g in let one = conflict_is c in λ broken. elim broken as (λ k. Breaks k (tag_at place name attrs) → ⊥) [
+  pub sound_by : is_repeated attrs ≡ false → list_any (is_missing attrs) (attribute_rows name) ≡ false → list_any (is_bad attrs) (attribute_rows name) ≡ false → list_any (is_conflict attrs) (attribute_rows name) ≡ false
+      → (BreaksTagRule kinds.BadDate (tag_at place name attrs) → ⊥) → BreaksNoTagRule (tag_at place name attrs)
+  sound_by r m g c d = let none = missing_is m in let good = bad_is g in let one = conflict_is c in λ broken. elim broken as (λ k. BreaksTagRule k (tag_at place name attrs) → ⊥) [
     | kinds.RepeatedAttribute ↦ λ b. absurd (cc (r, b))
     | kinds.MissingAttribute ↦ λ b. absurd (cc (none, b))
     | kinds.BadValue ↦ λ b. absurd (cc (good, b))
@@ -140,7 +140,7 @@ module _ (name : TagName) (attrs : List Attribute) (place : ℕ) where
   no_bad_date (alink l) n f t d = absurd (names_differ kind.Alink kind.Timex refl (sym n ∙ t))
   no_bad_date (slink l) n f t d = absurd (names_differ kind.Slink kind.Timex refl (sym n ∙ t))
 
-  pub read_sound : (t : PlainTyped) → is_repeated attrs ≡ false → ReadsTag name attrs place t → IsSound (tag_at place name attrs)
+  pub read_sound : (t : PlainTyped) → is_repeated attrs ≡ false → ReadsTag name attrs place t → BreaksNoTagRule (tag_at place name attrs)
   read_sound t r h = sound_by r h.none_missing h.none_bad h.no_conflict (λ b. no_bad_date t.content h.kind h.fields b.0 b.1)
 
   pub read_typed : (t : PlainTyped) → ReadsTag name attrs place t → TypedAs (tag_at place name attrs) t

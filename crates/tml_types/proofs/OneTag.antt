@@ -15,11 +15,11 @@ use Rattle.tml_types.specs.declared.typed.TypedTag.{TypedTag}
 use Rattle.tml_types.specs.References.{kind_of, tag_name}
 use Rattle.tml_types.specs.Content.{PlainTyped}
 use Rattle.tml_types.specs.Places.{IsPlaceSmall}
-use Rattle.tml_types.specs.Rules.{IsSound, is_bad, is_conflict, is_missing, is_repeated}
-use Rattle.tml_types.specs.Table.{Row, rows_at, rows_of}
+use Rattle.tml_types.specs.Rules.{BreaksNoTagRule, is_bad, is_conflict, is_missing, is_repeated}
+use Rattle.tml_types.specs.Table.{Row, rows_at, attribute_rows}
 use Rattle.tml_types.specs.Typing.{TypedAs}
 use Rattle.tml_types.specs.View.{typed_of}
-use Rattle.tml_types.specs.Walking.{Adds, ReadsTag, Yields, tag_at}
+use Rattle.tml_types.specs.Walking.{AddsTyped, ReadsTag, Yields, tag_at}
 use Rattle.tml_types.specs.Whole.{AreTyped, has_rows}
 use Rattle.tml_types.proofs.OneRule.{known, rows_known, sound_by, read_sound, read_typed}
 
@@ -44,16 +44,16 @@ typed_alone t typed b e h = rw e h
 cons_nil : {A : Type 0} (x : A) (xs : List A) → x ∷ xs ≡ [] → ⊥
 cons_nil x xs e = absurd cc
 
-no_timex_row : (name : TagName) → rows_of name ≡ [] → text_of name ≡ codes "TIMEX3" → ⊥
-no_timex_row name e n = cons_nil _ _ (sym (ap rows_of (texts_tell text_of all_tags name tag.Timex3 known n)) ∙ e)
+no_timex_row : (name : TagName) → attribute_rows name ≡ [] → text_of name ≡ codes "TIMEX3" → ⊥
+no_timex_row name e n = cons_nil _ _ (sym (ap attribute_rows (texts_tell text_of all_tags name tag.Timex3 known n)) ∙ e)
 
 module _ (name : TagName) (attrs : List Attribute) (place : ℕ) where
   -- a tag without rows has no typed tag
-  pub yields_none : is_repeated attrs ≡ false → rows_of name ≡ [] → Yields (tag_at place name attrs) None
+  pub yields_none : is_repeated attrs ≡ false → attribute_rows name ≡ [] → Yields (tag_at place name attrs) None
   yields_none r e =
       let sound = sound_by name attrs place r (ap (list_any (is_missing attrs)) e) (ap (list_any (is_bad attrs)) e) (ap (list_any (is_conflict attrs)) e) (λ b. no_timex_row name e b.0) in (
         record {
-          sound = All-cons IsSound (tag_at place name attrs) [] sound (All-nil IsSound);
+          sound = All-cons BreaksNoTagRule (tag_at place name attrs) [] sound (All-nil BreaksNoTagRule);
           typed_tags = typed_alone (tag_at place name attrs) [] false (ap any_row (rows_known name ∙ e)) tt;
         },
         All-nil IsPlaceSmall,
@@ -63,15 +63,15 @@ module _ (name : TagName) (attrs : List Attribute) (place : ℕ) where
   pub yields_one : (t : TypedTag) → is_repeated attrs ≡ false → ReadsTag name attrs place (typed_of t) → Yields (tag_at place name attrs) (Some t)
   yields_one t r h = (
     record {
-      sound = All-cons IsSound (tag_at place name attrs) [] (read_sound name attrs place (typed_of t) r h) (All-nil IsSound);
+      sound = All-cons BreaksNoTagRule (tag_at place name attrs) [] (read_sound name attrs place (typed_of t) r h) (All-nil BreaksNoTagRule);
       typed_tags = typed_alone (tag_at place name attrs) (typed_of t ∷ []) true (ap (λ (n : List ℕ). any_row (rows_at n)) h.kind ∙ kind_rows (kind_of (typed_of t).content)) (read_typed name attrs place (typed_of t) h, tt);
     },
     All-cons IsPlaceSmall (typed_of t) [] h.small (All-nil IsPlaceSmall),
   )
 
 -- what a tag yields is added
-pub adds_one : (tag : PlainTag) (old new : List TypedTag) (t : TypedTag) → Yields tag (Some t) → new ≡ old ++ t ∷ [] → Adds (tag ∷ []) old new
+pub adds_one : (tag : PlainTag) (old new : List TypedTag) (t : TypedTag) → Yields tag (Some t) → new ≡ old ++ t ∷ [] → AddsTyped (tag ∷ []) old new
 adds_one tag old new t h e = (t ∷ [], h.0, h.1, e)
 
-pub adds_none : (tag : PlainTag) (old new : List TypedTag) → Yields tag None → new ≡ old → Adds (tag ∷ []) old new
+pub adds_none : (tag : PlainTag) (old new : List TypedTag) → Yields tag None → new ≡ old → AddsTyped (tag ∷ []) old new
 adds_none tag old new h e = ([], h.0, h.1, e ∙ sym (append-nil old))

@@ -17,8 +17,8 @@ use Rattle.net_core.proofs.RelLaws.{rels_apart}
 use Rattle.tml_types.specs.Content.{Content, PlainTyped, Reference, event, instance, timex, signal, tlink, alink, slink}
 use Rattle.tml_types.specs.Listed as listed
 use Rattle.tml_types.specs.References.{kind_of, tag_name}
-use Rattle.tml_types.specs.Rules.{IsSound, is_absent, is_conflict}
-use Rattle.tml_types.specs.Table.{rows_at, rows_of}
+use Rattle.tml_types.specs.Rules.{BreaksNoTagRule, is_absent, is_conflict}
+use Rattle.tml_types.specs.Table.{rows_at, attribute_rows}
 use Rattle.tml_types.specs.Typing.{EndOf, HasFields, IsValueOf, TypedAs}
 use Rattle.tml_types.specs.Values.{truth_text, all_truths, value_of}
 use Rattle.tml_types.specs.Whole.{Types, has_rows}
@@ -110,16 +110,16 @@ false_of true h = absurd (h refl)
 false_of false h = refl
 
 -- of neither pair of a TLINK that is sound both are there
-tlink_pairs : (t : PlainTag) → IsSound t → t.name ≡ codes "TLINK" →
+tlink_pairs : (t : PlainTag) → BreaksNoTagRule t → t.name ≡ codes "TLINK" →
     ((not (is_absent (value_of (codes "eventInstanceID") t.attrs)) && not (is_absent (value_of (codes "timeID") t.attrs))) ≡ false)
     × ((not (is_absent (value_of (codes "relatedToEventInstance") t.attrs)) && not (is_absent (value_of (codes "relatedToTime") t.attrs))) ≡ false)
 tlink_pairs t sound e =
     let rows = ap rows_at e ∙ rows_known tag.Tlink in
-    let none : list_any (is_conflict t.attrs) (rows_of tag.Tlink) ≡ false = subst (λ rs. list_any (is_conflict t.attrs) rs ≡ false) rows (false_of _ (sound kinds.Conflict)) in
+    let none : list_any (is_conflict t.attrs) (attribute_rows tag.Tlink) ≡ false = subst (λ rs. list_any (is_conflict t.attrs) rs ≡ false) rows (false_of _ (sound kinds.Conflict)) in
     let first = or_false _ _ none in
     (first.0, (or_false _ _ first.1).0)
 
-same_content : (t : PlainTag) (c d : Content) → IsSound t → t.name ≡ tag_name (kind_of c) → t.name ≡ tag_name (kind_of d) → HasFields t.attrs c → HasFields t.attrs d → c ≡ d
+same_content : (t : PlainTag) (c d : Content) → BreaksNoTagRule t → t.name ≡ tag_name (kind_of c) → t.name ≡ tag_name (kind_of d) → HasFields t.attrs c → HasFields t.attrs d → c ≡ d
 same_content t (event c) (event d) sound n m h k = λ i. event (record {
   eid = one_text _ c.eid d.eid h.0 k.0 i;
   class = one_value listed.class_text listed.all_classes classes _ c.class d.class h.1 k.1 i;
@@ -168,19 +168,19 @@ same_content t (slink c) (slink d) sound n m h k = λ i. slink (record {
 })
 same_content t c d sound n m h k = absurd (names_differ (kind_of c) (kind_of d) refl (sym n ∙ m))
 
-same_typed : (tag : PlainTag) (t u : PlainTyped) → IsSound tag → TypedAs tag t → TypedAs tag u → t ≡ u
+same_typed : (tag : PlainTag) (t u : PlainTyped) → BreaksNoTagRule tag → TypedAs tag t → TypedAs tag u → t ≡ u
 same_typed tag t u sound h k = λ i. record {
   place = (h.place ∙ sym k.place) i;
   content = same_content tag t.content u.content sound h.name k.name h.fields k.fields i;
 }
 
-same_tags : (tags : List PlainTag) (typed others : List PlainTyped) → All IsSound tags → AllZip TypedAs tags typed → AllZip TypedAs tags others → typed ≡ others
+same_tags : (tags : List PlainTag) (typed others : List PlainTyped) → All BreaksNoTagRule tags → AllZip TypedAs tags typed → AllZip TypedAs tags others → typed ≡ others
 same_tags [] [] [] sound h k = refl
 same_tags [] [] (u ∷ others) sound h k = absurd k
 same_tags [] (t ∷ typed) others sound h k = absurd h
 same_tags (tag ∷ tags) [] others sound h k = absurd h
 same_tags (tag ∷ tags) (t ∷ typed) [] sound h k = absurd k
-same_tags (tag ∷ tags) (t ∷ typed) (u ∷ others) sound h k = λ i. same_typed tag t u (All-head IsSound tag tags sound) h.0 k.0 i ∷ same_tags tags typed others (All-tail IsSound tag tags sound) h.1 k.1 i
+same_tags (tag ∷ tags) (t ∷ typed) (u ∷ others) sound h k = λ i. same_typed tag t u (All-head BreaksNoTagRule tag tags sound) h.0 k.0 i ∷ same_tags tags typed others (All-tail BreaksNoTagRule tag tags sound) h.1 k.1 i
 
 pub one_typed : (tags : List PlainTag) (typed others : List PlainTyped) → Types tags typed → Types tags others → typed ≡ others
-one_typed tags typed others h k = same_tags (filter has_rows tags) typed others (All-filter has_rows IsSound tags h.sound) h.typed_tags k.typed_tags
+one_typed tags typed others h k = same_tags (filter has_rows tags) typed others (All-filter has_rows BreaksNoTagRule tags h.sound) h.typed_tags k.typed_tags

@@ -29,8 +29,8 @@ use Rattle.tml_types.specs.declared.typed.TypedTag.{TypedTag}
 use Rattle.tml_types.specs.declared.walk.TypeFault.{TypeFault}
 use Rattle.tml_types.specs.Content.{PlainTyped}
 use Rattle.tml_types.specs.Places.{HaveRisingPlaces, IsPlaceSmall}
-use Rattle.tml_types.specs.Rules.{IsSound}
-use Rattle.tml_types.specs.TagReader.{AreTypedSo, HasJudged, HasRead, HasSourceFault, OfUnits, bytes_left, is_complete}
+use Rattle.tml_types.specs.Rules.{BreaksNoTagRule}
+use Rattle.tml_types.specs.TagReader.{AreTypedSo, HasJudged, HasReadUnits, HasSourceFault, OfUnits, bytes_left, is_complete}
 use Rattle.tml_types.specs.View.{typed_of}
 use Rattle.tml_types.specs.Walking.{Yields}
 use Rattle.tml_types.specs.Whole.{HasTagFault}
@@ -45,7 +45,7 @@ nothing_read source units h begins e = record {
   open_tags = [];
   nodes = [];
   passed = subst (λ (g : History). HavePassed [] [] [] g) (sym e) passed_none;
-  known = (record { sound = All-nil IsSound; typed_tags = tt }, All-nil IsPlaceSmall);
+  known = (record { sound = All-nil BreaksNoTagRule; typed_tags = tt }, All-nil IsPlaceSmall);
 }
 
 -- ---- one more unit
@@ -57,11 +57,11 @@ one_tag (Some tag) = refl
 tags_more : (us : List PlainUnit) (u : PlainUnit) → tags_of us ++ option_to_list (tag_of u) ≡ tags_of (us ++ u ∷ [])
 tags_more us u = ap (λ (ts : List PlainTag). tags_of us ++ ts) (sym (one_tag (tag_of u))) ∙ sym (filter_map-append tag_of us (u ∷ []))
 
-module _ {source : List ℕ} {us : List PlainUnit} {Known : List PlainTag → Type 0} (old : TagReader) (h : HasRead source us Known old) where
+module _ {source : List ℕ} {us : List PlainUnit} {Known : List PlainTag → Type 0} (old : TagReader) (h : HasReadUnits source us Known old) where
   module _ (units : Reading) (u : Unit) (gives : CutsOn old.units units (Ok (Some u))) where
     -- it passes
     pub reads_on : (More : List PlainTag → Type 0) (nesting : History) → Passes old.nesting (unit_of u).kind nesting → ((tags : List PlainTag) → Known tags → More (tags ++ option_to_list (tag_of (unit_of u))))
-        → HasRead source (us ++ unit_of u ∷ []) More (record { units = units; nesting = nesting })
+        → HasReadUnits source (us ++ unit_of u ∷ []) More (record { units = units; nesting = nesting })
     reads_on More nesting passes more =
         let p = passes_on us (unit_of u) h.open_tags h.nodes old.nesting nesting h.passed passes in
         record {
@@ -132,7 +132,7 @@ fault_comes typed tag f o e k tags h =
 
 -- a fault stays that of more tags
 pub fault_stays : (f : TypeFault) (more tags : List PlainTag) → HasTagFault tags f → HasTagFault (tags ++ more) f
-fault_stays f more tags h = fault_of_more [] tags more (tags ++ more) f refl (All-nil IsSound) h
+fault_stays f more tags h = fault_of_more [] tags more (tags ++ more) f refl (All-nil BreaksNoTagRule) h
 
 -- ---- places
 

@@ -32,8 +32,8 @@ use Rattle.tml_types.specs.Answers.{TypedOrFault}
 use Rattle.tml_types.specs.Content.{Content, PlainTyped, Reference, event, instance, timex, signal, tlink, alink, slink}
 use Rattle.tml_types.specs.Listed as listed
 use Rattle.tml_types.specs.References.{kind_of, tag_name}
-use Rattle.tml_types.specs.Rules.{Breaks, BreaksAfter, IsNoDate, IsSound, is_absent, is_bad, is_conflict, is_missing, is_repeated, is_unfit}
-use Rattle.tml_types.specs.Table.{Row, one_of, optional, required, rows_at, rows_of}
+use Rattle.tml_types.specs.Rules.{BreaksTagRule, BreaksAfter, IsNoDate, BreaksNoTagRule, is_absent, is_bad, is_conflict, is_missing, is_repeated, is_unfit}
+use Rattle.tml_types.specs.Table.{Row, one_of, optional, required, rows_at, attribute_rows}
 use Rattle.tml_types.specs.Typing.{EndOf, HasFields, IsValueOf, TypedAs}
 use Rattle.tml_types.specs.Values.{is_named, is_of_form, truth_text, all_truths, value_of}
 use Rattle.tml_types.specs.Whole.{AreTyped, has_rows, place_of}
@@ -49,7 +49,7 @@ no_date_or_not (Some text) = elim (every_text text) [
   | inr bad ↦ yes bad
 ]
 
-broken_or_not : (rule : FaultKind) (tag : PlainTag) → Dec (Breaks rule tag)
+broken_or_not : (rule : FaultKind) (tag : PlainTag) → Dec (BreaksTagRule rule tag)
 broken_or_not kinds.RepeatedAttribute tag = Bool-discrete (is_repeated tag.attrs) true
 broken_or_not kinds.MissingAttribute tag = Bool-discrete (list_any (is_missing tag.attrs) (rows_at tag.name)) true
 broken_or_not kinds.BadValue tag = Bool-discrete (list_any (is_bad tag.attrs) (rows_at tag.name)) true
@@ -114,7 +114,7 @@ dated (Some text) good = elim (every_text text) [
 ]
 
 -- what a tag of this name says, where the name has rows
-says : (name : TagName) (attrs : List Attribute) → any_row (rows_of name) ≡ true → AllByRecursion (Given attrs) (rows_of name) → (name ≡ tag.Timex3 → IsNoDate (value_of (codes "value") attrs) → ⊥)
+says : (name : TagName) (attrs : List Attribute) → any_row (attribute_rows name) ≡ true → AllByRecursion (Given attrs) (attribute_rows name) → (name ≡ tag.Timex3 → IsNoDate (value_of (codes "value") attrs) → ⊥)
     → (content : Content) × (text_of name ≡ tag_name (kind_of content)) × HasFields attrs content
 says tag.Event attrs some (eid, (class, _)) good =
     let class = one_of_all listed.class_text listed.all_classes _ class in
@@ -172,7 +172,7 @@ says other attrs some rows good = absurd cc
 -- ---- tags
 
 -- a tag that breaks no rule has a typed tag, where its name has rows
-typed_one : (t : PlainTag) → IsSound t → has_rows t ≡ true → (typed : PlainTyped) × TypedAs t typed
+typed_one : (t : PlainTag) → BreaksNoTagRule t → has_rows t ≡ true → (typed : PlainTyped) × TypedAs t typed
 typed_one t sound some = by_name (named_of text_of all_tags t.name) refl
   where
     rows_given : AllByRecursion (Given t.attrs) (rows_at t.name)
@@ -186,14 +186,14 @@ typed_one t sound some = by_name (named_of text_of all_tags t.name) refl
         let content = says name t.attrs (sym (ap any_row rows) ∙ some) (subst (AllByRecursion (Given t.attrs)) rows rows_given) (λ k bad. sound kinds.BadDate (is ∙ ap text_of k, bad)) in
         (record { place = t.place; content = content.0 }, record { place = refl; name = is ∙ content.1; fields = content.2 })
 
-typed_all : (tags : List PlainTag) → All IsSound tags → (typed : List PlainTyped) × AreTyped tags typed
-typed_all tags sound = partners TypedAs (filter has_rows tags) (λ k d within. typed_one _ (All-filter has_rows IsSound tags sound k d within) (filter_passes has_rows tags k d within))
+typed_all : (tags : List PlainTag) → All BreaksNoTagRule tags → (typed : List PlainTyped) × AreTyped tags typed
+typed_all tags sound = partners TypedAs (filter has_rows tags) (λ k d within. typed_one _ (All-filter has_rows BreaksNoTagRule tags sound k d within) (filter_passes has_rows tags k d within))
 
 pub typed_or_fault : (tags : List PlainTag) → TypedOrFault tags
 typed_or_fault tags = elim (first_or_none BreaksAfter number_of place_of (λ rule before. broken_or_not rule) all_kinds every_kind tags) [
   | inl fault ↦ inr fault
   | inr none ↦
-      let sound = all_of_none Breaks tags none in
+      let sound = all_of_none BreaksTagRule tags none in
       let typed = typed_all tags sound in
       inl (typed.0, record { sound = sound; typed_tags = typed.1 })
 ]

@@ -21,20 +21,20 @@ use Rattle.tml_types.specs.declared.typed.TypedTag.{TypedTag}
 use Rattle.tml_types.specs.declared.walk.TypeFault.{TypeFault}
 use Rattle.tml_types.specs.Content.{PlainTyped}
 use Rattle.tml_types.specs.Places.{IsPlaceSmall}
-use Rattle.tml_types.specs.Rules.{Breaks, IsSound}
+use Rattle.tml_types.specs.Rules.{BreaksTagRule, BreaksNoTagRule}
 use Rattle.tml_types.specs.Typing.{TypedAs}
 use Rattle.tml_types.specs.View.{typed_of}
-use Rattle.tml_types.specs.Walking.{Adds, tag_at}
-use Rattle.tml_types.specs.Whole.{FaultAt, HasTagFault, Types, has_rows, kind_and_place, place_of}
+use Rattle.tml_types.specs.Walking.{AddsTyped, tag_at}
+use Rattle.tml_types.specs.Whole.{TagFaultAt, HasTagFault, Types, has_rows, kind_and_place, place_of}
 
 pub types_append : (tags others : List PlainTag) (ts us : List PlainTyped) → Types tags ts → Types others us → Types (tags ++ others) (ts ++ us)
 types_append tags others ts us h k = record {
-  sound = All-append IsSound tags others h.sound k.sound;
+  sound = All-append BreaksNoTagRule tags others h.sound k.sound;
   typed_tags = rw (filter-append has_rows tags others) (zip_append TypedAs (filter has_rows tags) (filter has_rows others) ts us h.typed_tags k.typed_tags);
 }
 
 -- the typed tags of more tags after those of some
-pub adds_more : (tags others : List PlainTag) (a b c : List TypedTag) → Adds tags a b → Adds others b c → Adds (tags ++ others) a c
+pub adds_more : (tags others : List PlainTag) (a b c : List TypedTag) → AddsTyped tags a b → AddsTyped others b c → AddsTyped (tags ++ others) a c
 adds_more tags others a b c h k =
     let both : map typed_of (h.0 ++ k.0) ≡ map typed_of h.0 ++ map typed_of k.0 = map-append typed_of h.0 k.0 in
     (h.0 ++ k.0, rw both (types_append tags others (map typed_of h.0) (map typed_of k.0) h.1 k.1), rw both (All-append IsPlaceSmall (map typed_of h.0) (map typed_of k.0) h.2 k.2), k.3 ∙ ap (λ (ts : List TypedTag). ts ++ k.0) h.3 ∙ append_assoc a h.0 k.0)
@@ -45,12 +45,12 @@ when_ok (Ok x) e h = h
 when_ok (Err x) e h = absurd cc
 
 -- the first fault of some tags is that of more, where those before them have none
-pub fault_of_more : (before tags after all : List PlainTag) (fault : TypeFault) → before ++ tags ++ after ≡ all → All IsSound before → HasTagFault tags fault → HasTagFault all fault
+pub fault_of_more : (before tags after all : List PlainTag) (fault : TypeFault) → before ++ tags ++ after ≡ all → All BreaksNoTagRule before → HasTagFault tags fault → HasTagFault all fault
 fault_of_more before tags after all fault e sound h =
     rw (← e)
-    (elim (kind_and_place fault) as (λ t. IfSome t (λ (f : FaultKind × ℕ). FaultAt tags f.1 f.0) → IfSome t (λ (f : FaultKind × ℕ). FaultAt (before ++ tags ++ after) f.1 f.0)) [
+    (elim (kind_and_place fault) as (λ t. IfSome t (λ (f : FaultKind × ℕ). TagFaultAt tags f.1 f.0) → IfSome t (λ (f : FaultKind × ℕ). TagFaultAt (before ++ tags ++ after) f.1 f.0)) [
       | None ↦ λ k. tt
-      | Some f ↦ λ k. fault_within Breaks number_of place_of before tags after f.1 f.0 sound k
+      | Some f ↦ λ k. fault_within BreaksTagRule number_of place_of before tags after f.1 f.0 sound k
     ] h)
 
 -- a tag and those inside it, one after another

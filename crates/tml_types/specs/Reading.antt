@@ -23,15 +23,15 @@ abbrev pub IsGood : (List ℕ → Bool) → Option (List ℕ) → Option (List �
 IsGood test value read = (value ≡ read) × (is_unfit test value ≡ false)
 
 -- a value is there that fails a test, and the tag at this place is refused
-abbrev pub IsBad : (List ℕ → Bool) → Option (List ℕ) → ℕ → TypeFault → Type 0
-IsBad test value place fault = (fault ≡ faults.BadValue place) × (is_unfit test value ≡ true)
+abbrev pub IsBadValue : (List ℕ → Bool) → Option (List ℕ) → ℕ → TypeFault → Type 0
+IsBadValue test value place fault = (fault ≡ faults.BadValue place) × (is_unfit test value ≡ true)
 
 -- a value is in a list of texts, where it is there, and this was read of it; or it is not, and the tag at this place is refused
 abbrev pub IsListed : {T : Type 0} → (T → List ℕ) → List T → Option (List ℕ) → Option T → Type 0
 IsListed text_of all value read = IsGood (is_named text_of all) value (option_map text_of read)
 
 abbrev pub IsUnlisted : {T : Type 0} → (T → List ℕ) → List T → Option (List ℕ) → ℕ → TypeFault → Type 0
-IsUnlisted text_of all value place fault = IsBad (is_named text_of all) value place fault
+IsUnlisted text_of all value place fault = IsBadValue (is_named text_of all) value place fault
 
 -- an attribute that has to be there is absent, and the tag is refused
 abbrev pub IsMissing : Attributes → Option (List ℕ) → TypeFault → Type 0

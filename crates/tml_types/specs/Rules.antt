@@ -52,22 +52,22 @@ IsNoDate None = ⊥
 IsNoDate (Some text) = NoFilling text
 
 -- a tag breaks a rule of attributes
-abbrev pub Breaks : FaultKind → PlainTag → Type 0
-Breaks RepeatedAttribute tag = is_repeated tag.attrs ≡ true
-Breaks MissingAttribute tag = list_any (is_missing tag.attrs) (rows_at tag.name) ≡ true
-Breaks BadValue tag = list_any (is_bad tag.attrs) (rows_at tag.name) ≡ true
-Breaks Conflict tag = list_any (is_conflict tag.attrs) (rows_at tag.name) ≡ true
-Breaks BadDate tag = (tag.name ≡ codes "TIMEX3") × IsNoDate (value_of (codes "value") tag.attrs)
-Breaks other tag = ⊥
+abbrev pub BreaksTagRule : FaultKind → PlainTag → Type 0
+BreaksTagRule RepeatedAttribute tag = is_repeated tag.attrs ≡ true
+BreaksTagRule MissingAttribute tag = list_any (is_missing tag.attrs) (rows_at tag.name) ≡ true
+BreaksTagRule BadValue tag = list_any (is_bad tag.attrs) (rows_at tag.name) ≡ true
+BreaksTagRule Conflict tag = list_any (is_conflict tag.attrs) (rows_at tag.name) ≡ true
+BreaksTagRule BadDate tag = (tag.name ≡ codes "TIMEX3") × IsNoDate (value_of (codes "value") tag.attrs)
+BreaksTagRule other tag = ⊥
 
 -- a tag breaks none of them
-abbrev pub IsSound : PlainTag → Type 0
-IsSound tag = (kind : FaultKind) → Breaks kind tag → ⊥
+abbrev pub BreaksNoTagRule : PlainTag → Type 0
+BreaksNoTagRule tag = (kind : FaultKind) → BreaksTagRule kind tag → ⊥
 
 -- the same where the tags before it are given, which matter to no rule of attributes
 abbrev pub BreaksAfter : FaultKind → List PlainTag → PlainTag → Type 0
-BreaksAfter kind before tag = Breaks kind tag
+BreaksAfter kind before tag = BreaksTagRule kind tag
 
 -- no tag that begins before this place breaks a rule
 abbrev pub AreSoundBefore : ℕ → List PlainTag → Type 0
-AreSoundBefore place tags = All (λ (tag : PlainTag). tag.place < place → IsSound tag) tags
+AreSoundBefore place tags = All (λ (tag : PlainTag). tag.place < place → BreaksNoTagRule tag) tags

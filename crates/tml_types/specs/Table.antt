@@ -29,12 +29,12 @@ pub data Row : Type 0 where
   one_of : List ℕ → List ℕ → ValueForm → Row
 
 -- the attributes of a tag; the root and the wrappers have none
-abbrev pub rows_of : TagName → List Row
-rows_of tag.Event =
+abbrev pub attribute_rows : TagName → List Row
+attribute_rows tag.Event =
     required (codes "eid") identifier
     ∷ required (codes "class") event_class
     ∷ []
-rows_of tag.MakeInstance =
+attribute_rows tag.MakeInstance =
     required (codes "eiid") identifier
     ∷ required (codes "eventID") identifier
     ∷ optional (codes "tense") tense
@@ -45,7 +45,7 @@ rows_of tag.MakeInstance =
     ∷ optional (codes "modality") any_text
     ∷ optional (codes "cardinality") any_text
     ∷ []
-rows_of tag.Timex3 =
+attribute_rows tag.Timex3 =
     required (codes "tid") identifier
     ∷ required (codes "type") timex_kind
     ∷ optional (codes "value") any_text
@@ -58,32 +58,32 @@ rows_of tag.Timex3 =
     ∷ optional (codes "quant") any_text
     ∷ optional (codes "freq") any_text
     ∷ []
-rows_of tag.Signal =
+attribute_rows tag.Signal =
     required (codes "sid") identifier
     ∷ []
-rows_of tag.Tlink =
+attribute_rows tag.Tlink =
     required (codes "relType") relation
     ∷ one_of (codes "eventInstanceID") (codes "timeID") identifier
     ∷ one_of (codes "relatedToEventInstance") (codes "relatedToTime") identifier
     ∷ optional (codes "lid") identifier
     ∷ optional (codes "signalID") identifier
     ∷ []
-rows_of tag.Alink =
+attribute_rows tag.Alink =
     required (codes "eventInstanceID") identifier
     ∷ required (codes "relatedToEventInstance") identifier
     ∷ required (codes "relType") aspect_relation
     ∷ optional (codes "lid") identifier
     ∷ optional (codes "signalID") identifier
     ∷ []
-rows_of tag.Slink =
+attribute_rows tag.Slink =
     required (codes "subordinatedEventInstance") identifier
     ∷ required (codes "relType") sub_relation
     ∷ optional (codes "eventInstanceID") identifier
     ∷ optional (codes "lid") identifier
     ∷ optional (codes "signalID") identifier
     ∷ []
-rows_of other = []
+attribute_rows other = []
 
 -- the rows of the tag with this name
 unfoldable pub rows_at : List ℕ → List Row
-rows_at name = elim (named_of text_of all_tags name) [ None ↦ [] | Some t ↦ rows_of t ]
+rows_at name = elim (named_of text_of all_tags name) [ None ↦ [] | Some t ↦ attribute_rows t ]

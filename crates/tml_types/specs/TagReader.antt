@@ -48,7 +48,7 @@ abbrev pub begun_tag : Begun → PlainTag
 begun_tag b = tag_at b.of.place b.name (attrs_of b.of)
 
 -- A reader of this source has given these of its units, none of them breaks a rule, and this is known of the tags that they begin.
-pub record HasRead (source : List ℕ) (us : List PlainUnit) (Known : List PlainTag → Type 0) (r : TagReader) : Type 0 where
+pub record HasReadUnits (source : List ℕ) (us : List PlainUnit) (Known : List PlainTag → Type 0) (r : TagReader) : Type 0 where
   pub source_is : r.units.source ≡ source
   pub cut : HasCut r.units us
   pub open_tags : List OpenTag
@@ -62,7 +62,7 @@ AreTypedSo typed tags = Types tags typed × All IsPlaceSmall typed
 
 -- a reader of this source has given these units, which begin these typed tags
 abbrev pub HasJudged : List ℕ → List PlainUnit → List PlainTyped → TagReader → Type 0
-HasJudged source us typed r = HasRead source us (AreTypedSo typed) r
+HasJudged source us typed r = HasReadUnits source us (AreTypedSo typed) r
 
 -- a reader of this source has given no unit
 abbrev pub BeginsJudging : List ℕ → TagReader → Type 0
@@ -87,12 +87,12 @@ abbrev pub typed_with : List PlainTyped → Judged → List PlainTyped
 typed_with typed j = typed ++ map typed_of (option_to_list j.tag)
 
 -- What a pull of a unit gives: one more, which has no fault, with its typed tag, or none where all units were given and make a tree, or the fault of the source.
-abbrev pub GivesUnit : TagReader → TagReader → Result (Option Judged) SourceFault → Type 0
-GivesUnit old new (Ok (Some j)) = Passes old.nesting (unit_of j.unit).kind new.nesting
+abbrev pub GivesJudged : TagReader → TagReader → Result (Option Judged) SourceFault → Type 0
+GivesJudged old new (Ok (Some j)) = Passes old.nesting (unit_of j.unit).kind new.nesting
     × ((source : List ℕ) (us : List PlainUnit) (typed : List PlainTyped) → HasJudged source us typed old
     → HasJudged source (us ++ unit_of j.unit ∷ []) (typed_with typed j) new × HaveRisingPlaces (typed_with typed j))
-GivesUnit old new (Ok None) = (source : List ℕ) (us : List PlainUnit) (typed : List PlainTyped) → HasJudged source us typed old → OfUnits source us (λ tags. Types tags typed)
-GivesUnit old new (Err fault) = (source : List ℕ) (us : List PlainUnit) (typed : List PlainTyped) → HasJudged source us typed old → HasSourceFault source fault
+GivesJudged old new (Ok None) = (source : List ℕ) (us : List PlainUnit) (typed : List PlainTyped) → HasJudged source us typed old → OfUnits source us (λ tags. Types tags typed)
+GivesJudged old new (Err fault) = (source : List ℕ) (us : List PlainUnit) (typed : List PlainTyped) → HasJudged source us typed old → HasSourceFault source fault
 
 -- no tag is open, and the root was seen whole
 abbrev pub is_complete : History → Bool
@@ -104,7 +104,7 @@ IsUnclosed r fault = (fault ≡ tree.Unclosed r.units.place) × (is_complete r.n
 
 -- the fault of a source of which the first tag at fault is known
 abbrev pub FaultsWith : TagReader → TypeFault → SourceFault → Type 0
-FaultsWith r known fault = (source : List ℕ) (us : List PlainUnit) → HasRead source us (λ tags. HasTagFault tags known) r → HasSourceFault source fault
+FaultsWith r known fault = (source : List ℕ) (us : List PlainUnit) → HasReadUnits source us (λ tags. HasTagFault tags known) r → HasSourceFault source fault
 
 -- how many bytes are left to a reader
 abbrev pub bytes_left : TagReader → ℕ

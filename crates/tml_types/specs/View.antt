@@ -12,9 +12,9 @@ use Rattle.tml_types.specs.Content.{Reference, PlainTyped, event, instance, time
 abbrev pub text_of : Option (Bor (List ℕ)) → Option (List ℕ)
 text_of slice = option_map (λ (s : Bor (List ℕ)). s.now) slice
 
-abbrev pub end_of : LinkEnd → Reference
-end_of (end.Instance name) = record { asked = kind.Instance; name = name.now }
-end_of (end.Time name) = record { asked = kind.Timex; name = name.now }
+abbrev pub reference_at_end : LinkEnd → Reference
+reference_at_end (end.Instance name) = record { asked = kind.Instance; name = name.now }
+reference_at_end (end.Time name) = record { asked = kind.Timex; name = name.now }
 
 abbrev pub typed_of : TypedTag → PlainTyped
 typed_of (Event place eid class) = record { place = place; content = event (record { eid = eid.now; class = class }) }
@@ -39,7 +39,7 @@ typed_of (Timex place tid kind value modifier function temporal anchor begin fin
 typed_of (Signal place sid) = record { place = place; content = signal (record { sid = sid.now }) }
 typed_of (Tlink place lid by_signal left rel right) = record {
   place = place;
-  content = tlink (record { lid = text_of lid; signal = text_of by_signal; left = end_of left; rel = rel; right = end_of right });
+  content = tlink (record { lid = text_of lid; signal = text_of by_signal; left = reference_at_end left; rel = rel; right = reference_at_end right });
 }
 typed_of (Alink place lid by_signal of_event related rel) = record {
   place = place;

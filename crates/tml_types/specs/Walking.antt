@@ -16,7 +16,7 @@ use Rattle.tml_types.specs.Content.{PlainTyped}
 use Rattle.tml_types.specs.Places.{IsPlaceSmall}
 use Rattle.tml_types.specs.Rules.{IsNoDate, is_missing, is_bad, is_conflict}
 use Rattle.tml_types.specs.References.{kind_of, tag_name}
-use Rattle.tml_types.specs.Table.{rows_of}
+use Rattle.tml_types.specs.Table.{attribute_rows}
 use Rattle.tml_types.specs.Typing.{HasFields}
 use Rattle.tml_types.specs.Values.{value_of}
 use Rattle.tml_types.specs.View.{typed_of}
@@ -38,39 +38,39 @@ name_of_kind kind.Slink = tag.Slink
 
 -- no rule is broken by a tag of this name with these attributes, but maybe that of repeated names, and this is its typed tag
 pub record ReadsTag (name : TagName) (attrs : List Attribute) (place : ℕ) (t : PlainTyped) : Type 0 where
-  pub none_missing : list_any (is_missing attrs) (rows_of name) ≡ false
-  pub none_bad : list_any (is_bad attrs) (rows_of name) ≡ false
-  pub no_conflict : list_any (is_conflict attrs) (rows_of name) ≡ false
+  pub none_missing : list_any (is_missing attrs) (attribute_rows name) ≡ false
+  pub none_bad : list_any (is_bad attrs) (attribute_rows name) ≡ false
+  pub no_conflict : list_any (is_conflict attrs) (attribute_rows name) ≡ false
   pub place_is : t.place ≡ place
   pub small : IsPlaceSmall t
   pub kind : text_of name ≡ tag_name (kind_of t.content)
   pub fields : HasFields attrs t.content
 
 -- this is the first rule that is broken, but maybe that of repeated names
-abbrev pub Refuses : TagName → List Attribute → ℕ → TypeFault → Type 0
-Refuses name attrs place (faults.MissingAttribute at) = (at ≡ place) × (list_any (is_missing attrs) (rows_of name) ≡ true)
-Refuses name attrs place (faults.BadValue at) =
+abbrev pub RefusesTag : TagName → List Attribute → ℕ → TypeFault → Type 0
+RefusesTag name attrs place (faults.MissingAttribute at) = (at ≡ place) × (list_any (is_missing attrs) (attribute_rows name) ≡ true)
+RefusesTag name attrs place (faults.BadValue at) =
     (at ≡ place)
-    × (list_any (is_missing attrs) (rows_of name) ≡ false)
-    × (list_any (is_bad attrs) (rows_of name) ≡ true)
-Refuses name attrs place (faults.Conflict at) =
+    × (list_any (is_missing attrs) (attribute_rows name) ≡ false)
+    × (list_any (is_bad attrs) (attribute_rows name) ≡ true)
+RefusesTag name attrs place (faults.Conflict at) =
     (at ≡ place)
-    × (list_any (is_missing attrs) (rows_of name) ≡ false)
-    × (list_any (is_bad attrs) (rows_of name) ≡ false)
-    × (list_any (is_conflict attrs) (rows_of name) ≡ true)
-Refuses name attrs place (faults.BadDate at) =
+    × (list_any (is_missing attrs) (attribute_rows name) ≡ false)
+    × (list_any (is_bad attrs) (attribute_rows name) ≡ false)
+    × (list_any (is_conflict attrs) (attribute_rows name) ≡ true)
+RefusesTag name attrs place (faults.BadDate at) =
     (at ≡ place)
-    × (list_any (is_missing attrs) (rows_of name) ≡ false)
-    × (list_any (is_bad attrs) (rows_of name) ≡ false)
-    × (list_any (is_conflict attrs) (rows_of name) ≡ false)
+    × (list_any (is_missing attrs) (attribute_rows name) ≡ false)
+    × (list_any (is_bad attrs) (attribute_rows name) ≡ false)
+    × (list_any (is_conflict attrs) (attribute_rows name) ≡ false)
     × (name ≡ tag.Timex3)
     × IsNoDate (value_of (codes "value") attrs)
-Refuses name attrs place fault = ⊥
+RefusesTag name attrs place fault = ⊥
 
 -- a tag breaks no rule, and this is its typed tag, if it has one
 abbrev pub Yields : PlainTag → Option TypedTag → Type 0
 Yields tag t = Types (tag ∷ []) (map typed_of (option_to_list t)) × All IsPlaceSmall (map typed_of (option_to_list t))
 
 -- the typed tags of some tags are added, and none of these tags breaks a rule
-abbrev pub Adds : List PlainTag → List TypedTag → List TypedTag → Type 0
-Adds tags old new = (more : List TypedTag) × Types tags (map typed_of more) × All IsPlaceSmall (map typed_of more) × (new ≡ old ++ more)
+abbrev pub AddsTyped : List PlainTag → List TypedTag → List TypedTag → Type 0
+AddsTyped tags old new = (more : List TypedTag) × Types tags (map typed_of more) × All IsPlaceSmall (map typed_of more) × (new ≡ old ++ more)

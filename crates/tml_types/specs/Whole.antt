@@ -3,7 +3,7 @@ use Rattle.std.specs.Prelude.{ℕ, Bool, true, false, List, [], ◌∷◌, Optio
 use Rattle.std.specs.List.{All, AllZip, filter}
 use Rattle.faults.specs.declared.kind.FaultKind.{FaultKind}
 use Rattle.faults.specs.declared.kind.FaultKind.TheVariants as kinds
-use Rattle.faults.specs.First.{FirstFault}
+use Rattle.faults.specs.First.{FirstBrokenRule}
 use Rattle.faults.specs.Kinds.{number_of}
 use Rattle.tml_tree.specs.Plain.{PlainNode}
 use Rattle.tml_tree.specs.Walking.{PlainTag, elements}
@@ -11,7 +11,7 @@ use Rattle.tml_tree.specs.Whole.{IsTreeOf}
 use Rattle.tml_types.specs.declared.walk.TypeFault.{TypeFault}
 use Rattle.tml_types.specs.declared.walk.TypeFault.TheVariants as faults
 use Rattle.tml_types.specs.Content.{PlainTyped}
-use Rattle.tml_types.specs.Rules.{AreSoundBefore, BreaksAfter, IsSound}
+use Rattle.tml_types.specs.Rules.{AreSoundBefore, BreaksAfter, BreaksNoTagRule}
 use Rattle.tml_types.specs.Table.{rows_at}
 use Rattle.tml_types.specs.Typing.{TypedAs}
 
@@ -25,15 +25,15 @@ AreTyped tags typed = AllZip TypedAs (filter has_rows tags) typed
 
 -- no tag breaks a rule, and these are their typed tags
 pub record Types (tags : List PlainTag) (typed : List PlainTyped) : Type 0 where
-  pub sound : All IsSound tags
+  pub sound : All BreaksNoTagRule tags
   pub typed_tags : AreTyped tags typed
 
 abbrev pub place_of : PlainTag → ℕ
 place_of tag = tag.place
 
 -- at a place stands the first tag that breaks a rule, and this is the first rule that it breaks
-abbrev pub FaultAt : List PlainTag → ℕ → FaultKind → Type 0
-FaultAt tags place kind = FirstFault BreaksAfter number_of place_of tags place kind
+abbrev pub TagFaultAt : List PlainTag → ℕ → FaultKind → Type 0
+TagFaultAt tags place kind = FirstBrokenRule BreaksAfter number_of place_of tags place kind
 
 -- the kind and the place of a fault; out of memory has none
 abbrev pub kind_and_place : TypeFault → Option (FaultKind × ℕ)
@@ -46,7 +46,7 @@ kind_and_place faults.Memory = None
 
 -- the fault of some tags; out of memory says nothing
 abbrev pub HasTagFault : List PlainTag → TypeFault → Type 0
-HasTagFault tags fault = IfSome (kind_and_place fault) (λ (f : FaultKind × ℕ). FaultAt tags f.1 f.0)
+HasTagFault tags fault = IfSome (kind_and_place fault) (λ (f : FaultKind × ℕ). TagFaultAt tags f.1 f.0)
 
 -- this holds of the tags of the tree of a source, which there is
 abbrev pub OfTree : List ℕ → (List PlainTag → Type 0) → Type 0

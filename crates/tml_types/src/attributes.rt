@@ -2,12 +2,12 @@
 ghost use Rattle.std.specs.List.{list_all, list_any};
 ghost use Rattle.std.specs.Prelude.{◌≡◌, [], ◌∷◌, false, true, Some, None, map, IfOk, IfErr, IfSome, IsNone};
 ghost use Rattle.tml_span.specs.View.{attribute_of};
-ghost use Rattle.tml_types.specs.Reading.{AreMissing, IsBad, IsGood, IsListed, IsMissing, IsUnlisted};
+ghost use Rattle.tml_types.specs.Reading.{AreMissing, IsBadValue, IsGood, IsListed, IsMissing, IsUnlisted};
 ghost use Rattle.tml_types.specs.Reading.{IsOneOf, IsPairOf, is_bad_pair, is_conflict_pair, value_at};
 ghost use Rattle.tml_types.specs.Rules.{IsNoDate, is_absent, is_unfit};
 ghost use Rattle.tml_types.specs.Typing.{IsValueOf};
 ghost use Rattle.tml_types.specs.Values as values;
-ghost use Rattle.tml_types.specs.View.{end_of, text_of};
+ghost use Rattle.tml_types.specs.View.{reference_at_end, text_of};
 ghost use Rattle.tml_types.specs.declared.walk.TypeFault.TheVariants as faults;
 
 use crate::TypeFault;
@@ -37,7 +37,7 @@ pub enum Pair<'s> {
 impl<'s> Pair<'s> {
     /// The end of a link, where one attribute of its pair is there.
     pub fn one(self) -> Option<LinkEnd<'s>>
-        ensures one { IfSome result (λ end. IsOneOf self.entry (end_of end)) }
+        ensures one { IfSome result (λ end. IsOneOf self.entry (reference_at_end end)) }
         ensures both { IsNone result → is_conflict_pair self.entry ≡ true }
     {
         match self {
@@ -96,7 +96,7 @@ impl<'s> Attributes<'_, 's> {
     /// An identifier, or what looks like one.
     pub fn identifier(&self, text: &'s [u8]) -> Result<&'s [u8], TypeFault>
         ensures good { IfOk result (λ t. IsGood values.is_identifier (Some text.now) (Some t.now)) }
-        ensures bad { IfErr result (IsBad values.is_identifier (Some text.now) self.now.place) }
+        ensures bad { IfErr result (IsBadValue values.is_identifier (Some text.now) self.now.place) }
     {
         if is_identifier(text) {
             Ok(text)
@@ -108,7 +108,7 @@ impl<'s> Attributes<'_, 's> {
     /// The identifier that is the value of an attribute, where it is there.
     pub fn optional_identifier(&self, name: &[u8]) -> Result<Option<&'s [u8]>, TypeFault>
         ensures good { IfOk result (λ t. IsGood values.is_identifier (value_at name.now self.now) (text_of t)) }
-        ensures bad { IfErr result (IsBad values.is_identifier (value_at name.now self.now) self.now.place) }
+        ensures bad { IfErr result (IsBadValue values.is_identifier (value_at name.now self.now) self.now.place) }
     {
         match self.value(name) {
             Some(text) if !is_identifier(text) => Err(TypeFault::BadValue { place: self.place }),
@@ -155,7 +155,7 @@ impl<'s> Attributes<'_, 's> {
         left: Pair<'s>,
         right: Pair<'s>,
     ) -> Result<(LinkEnd<'s>, LinkEnd<'s>), TypeFault>
-        ensures ends { IfOk result (λ both. IsOneOf left.entry (end_of both.0) × IsOneOf right.entry (end_of both.1)) }
+        ensures ends { IfOk result (λ both. IsOneOf left.entry (reference_at_end both.0) × IsOneOf right.entry (reference_at_end both.1)) }
         ensures conflict { IfErr result (λ e. (e ≡ faults.Conflict self.now.place) × (list_any is_conflict_pair (left.entry ∷ right.entry ∷ []) ≡ true)) }
     {
         match (left.one(), right.one()) {
@@ -189,7 +189,7 @@ impl<'s> Attributes<'_, 's> {
     /// The truth that is the value of an attribute, where it is there.
     pub fn optional_truth(&self, name: &[u8]) -> Result<Option<bool>, TypeFault>
         ensures good { IfOk result (λ v. IsListed values.truth_text values.all_truths (value_at name.now self.now) v) }
-        ensures bad { IfErr result (IsBad values.is_truth (value_at name.now self.now) self.now.place) }
+        ensures bad { IfErr result (IsBadValue values.is_truth (value_at name.now self.now) self.now.place) }
     {
         match self.value(name) {
             None => Ok(None),

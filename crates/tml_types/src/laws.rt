@@ -1,11 +1,11 @@
 //! Laws of typed tags: public functions that do nothing, each with the law as its contract.
 ghost use Rattle.std.specs.Prelude.{List};
 ghost use Rattle.tml_tree.specs.Walking.{PlainTag};
-ghost use Rattle.tml_types.specs.Answers.{OneAnswers, TypedOrFault};
+ghost use Rattle.tml_types.specs.Answers.{OneTypedAnswers, TypedOrFault};
 
 /// Typed tags and a fault exclude each other. Tags have one fault at most, and one list of typed tags at most.
 pub fn one_answer()
-    ensures { OneAnswers }
+    ensures { OneTypedAnswers }
 {}
 
 /// Whatever tags they are, they have typed tags or a fault.

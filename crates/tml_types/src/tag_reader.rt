@@ -7,7 +7,7 @@ ghost use Rattle.tml_tree.specs.Judging.{Passes, Refuses};
 ghost use Rattle.tml_tree.specs.Walking.{tag_of};
 ghost use Rattle.tml_tree.specs.Whole.{HasTreeFault};
 ghost use Rattle.tml_types.specs.TagReader as tag_reader;
-ghost use Rattle.tml_types.specs.TagReader.{BeginsJudging, FaultsWith, GivesTag, GivesUnit, HasGiven, HasSourceFault, IsUnclosed, MovesOn, begun_tag, is_complete};
+ghost use Rattle.tml_types.specs.TagReader.{BeginsJudging, FaultsWith, GivesTag, GivesJudged, HasGiven, HasSourceFault, IsUnclosed, MovesOn, begun_tag, is_complete};
 
 use crate::TypeFault;
 use crate::attributes::Attributes;
@@ -132,7 +132,7 @@ impl<'s> TagReader<'s> {
     /// Those of `pull`.
     #[inline(always)]
     pub fn pull_unit(&mut self, alloc: Global) -> Result<Option<Judged<'s>>, SourceFault>
-        ensures gives { GivesUnit self.old self.new result }
+        ensures gives { GivesJudged self.old self.new result }
         ensures moves { MovesOn self.old self.new result }
     {
         let unit = match self.units.pull(alloc) {

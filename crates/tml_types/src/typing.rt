@@ -5,9 +5,9 @@
 ghost use Rattle.std.specs.Prelude.{◌≡◌, [], ◌∷◌, IfOk, IfErr, IfSome, IsNone};
 ghost use Rattle.tml_tree.specs.declared.tag_name.TagName.TheVariants as tag;
 ghost use Rattle.tml_types.specs.Reading.{attrs_of};
-ghost use Rattle.tml_types.specs.Table.{rows_of};
+ghost use Rattle.tml_types.specs.Table.{attribute_rows};
 ghost use Rattle.tml_types.specs.View.{typed_of};
-ghost use Rattle.tml_types.specs.Walking.{ReadsTag, Refuses, Yields, name_of_kind, tag_at};
+ghost use Rattle.tml_types.specs.Walking.{ReadsTag, RefusesTag, Yields, name_of_kind, tag_at};
 ghost use Rattle.tml_types.specs.Whole.{HasTagFault};
 
 use crate::attributes::Attributes;
@@ -23,7 +23,7 @@ use tml_tree::TagName;
 #[inline(never)]
 fn event<'s>(of: &Attributes<'_, 's>) -> Result<TypedTag<'s>, TypeFault>
     ensures ok { IfOk result (λ t. ReadsTag tag.Event (attrs_of of.now) of.now.place (typed_of t)) }
-    ensures err { IfErr result (λ e. Refuses tag.Event (attrs_of of.now) of.now.place e) }
+    ensures err { IfErr result (λ e. RefusesTag tag.Event (attrs_of of.now) of.now.place e) }
 {
     let (eid, class) = of.both_required(b"eid", b"class")?;
 
@@ -39,7 +39,7 @@ fn event<'s>(of: &Attributes<'_, 's>) -> Result<TypedTag<'s>, TypeFault>
 #[inline(never)]
 fn instance<'s>(of: &Attributes<'_, 's>) -> Result<TypedTag<'s>, TypeFault>
     ensures ok { IfOk result (λ t. ReadsTag tag.MakeInstance (attrs_of of.now) of.now.place (typed_of t)) }
-    ensures err { IfErr result (λ e. Refuses tag.MakeInstance (attrs_of of.now) of.now.place e) }
+    ensures err { IfErr result (λ e. RefusesTag tag.MakeInstance (attrs_of of.now) of.now.place e) }
 {
     let (eiid, event) = of.both_required(b"eiid", b"eventID")?;
 
@@ -60,7 +60,7 @@ fn instance<'s>(of: &Attributes<'_, 's>) -> Result<TypedTag<'s>, TypeFault>
 #[inline(never)]
 fn timex<'s>(of: &Attributes<'_, 's>) -> Result<TypedTag<'s>, TypeFault>
     ensures ok { IfOk result (λ t. ReadsTag tag.Timex3 (attrs_of of.now) of.now.place (typed_of t)) }
-    ensures err { IfErr result (λ e. Refuses tag.Timex3 (attrs_of of.now) of.now.place e) }
+    ensures err { IfErr result (λ e. RefusesTag tag.Timex3 (attrs_of of.now) of.now.place e) }
 {
     let (tid, kind) = of.both_required(b"tid", b"type")?;
 
@@ -90,7 +90,7 @@ fn timex<'s>(of: &Attributes<'_, 's>) -> Result<TypedTag<'s>, TypeFault>
 #[inline(never)]
 fn signal<'s>(of: &Attributes<'_, 's>) -> Result<TypedTag<'s>, TypeFault>
     ensures ok { IfOk result (λ t. ReadsTag tag.Signal (attrs_of of.now) of.now.place (typed_of t)) }
-    ensures err { IfErr result (λ e. Refuses tag.Signal (attrs_of of.now) of.now.place e) }
+    ensures err { IfErr result (λ e. RefusesTag tag.Signal (attrs_of of.now) of.now.place e) }
 {
     let sid = of.required(b"sid")?;
 
@@ -104,7 +104,7 @@ fn signal<'s>(of: &Attributes<'_, 's>) -> Result<TypedTag<'s>, TypeFault>
 #[inline(never)]
 fn tlink<'s>(of: &Attributes<'_, 's>) -> Result<TypedTag<'s>, TypeFault>
     ensures ok { IfOk result (λ t. ReadsTag tag.Tlink (attrs_of of.now) of.now.place (typed_of t)) }
-    ensures err { IfErr result (λ e. Refuses tag.Tlink (attrs_of of.now) of.now.place e) }
+    ensures err { IfErr result (λ e. RefusesTag tag.Tlink (attrs_of of.now) of.now.place e) }
 {
     let rel = of.required(b"relType")?;
     let left = of.either(b"eventInstanceID", b"timeID")?;
@@ -129,7 +129,7 @@ fn tlink<'s>(of: &Attributes<'_, 's>) -> Result<TypedTag<'s>, TypeFault>
 #[inline(never)]
 fn alink<'s>(of: &Attributes<'_, 's>) -> Result<TypedTag<'s>, TypeFault>
     ensures ok { IfOk result (λ t. ReadsTag tag.Alink (attrs_of of.now) of.now.place (typed_of t)) }
-    ensures err { IfErr result (λ e. Refuses tag.Alink (attrs_of of.now) of.now.place e) }
+    ensures err { IfErr result (λ e. RefusesTag tag.Alink (attrs_of of.now) of.now.place e) }
 {
     let event = of.required(b"eventInstanceID")?;
     let (related, rel) = of.both_required(b"relatedToEventInstance", b"relType")?;
@@ -151,7 +151,7 @@ fn alink<'s>(of: &Attributes<'_, 's>) -> Result<TypedTag<'s>, TypeFault>
 #[inline(never)]
 fn slink<'s>(of: &Attributes<'_, 's>) -> Result<TypedTag<'s>, TypeFault>
     ensures ok { IfOk result (λ t. ReadsTag tag.Slink (attrs_of of.now) of.now.place (typed_of t)) }
-    ensures err { IfErr result (λ e. Refuses tag.Slink (attrs_of of.now) of.now.place e) }
+    ensures err { IfErr result (λ e. RefusesTag tag.Slink (attrs_of of.now) of.now.place e) }
 {
     let (subordinated, rel) = of.both_required(b"subordinatedEventInstance", b"relType")?;
 
@@ -172,7 +172,7 @@ fn slink<'s>(of: &Attributes<'_, 's>) -> Result<TypedTag<'s>, TypeFault>
 /// The kind of the typed tag that a tag of this name has. The root and the wrappers have none.
 fn kind_named(name: TagName) -> Option<TagKind>
     ensures some { IfSome result (λ kind. name ≡ name_of_kind kind) }
-    ensures none { IsNone result → rows_of name ≡ [] }
+    ensures none { IsNone result → attribute_rows name ≡ [] }
 {
     match name {
         TagName::Event => Some(TagKind::Event),
@@ -190,7 +190,7 @@ fn kind_named(name: TagName) -> Option<TagKind>
 #[inline(always)]
 fn typed_tag<'s>(kind: TagKind, of: &Attributes<'_, 's>) -> Result<TypedTag<'s>, TypeFault>
     ensures ok { IfOk result (λ t. ReadsTag (name_of_kind kind) (attrs_of of.now) of.now.place (typed_of t)) }
-    ensures err { IfErr result (λ e. Refuses (name_of_kind kind) (attrs_of of.now) of.now.place e) }
+    ensures err { IfErr result (λ e. RefusesTag (name_of_kind kind) (attrs_of of.now) of.now.place e) }
 {
     match kind {
         TagKind::Event => event(of),

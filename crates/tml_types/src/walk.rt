@@ -2,7 +2,7 @@
 ghost use Rattle.std.specs.Prelude.{◌≡◌, IfOk, IfErr, OnOk};
 ghost use Rattle.tml_tree.specs.View.{node_of, tag_node};
 ghost use Rattle.tml_tree.specs.Walking.{elements};
-ghost use Rattle.tml_types.specs.Walking.{Adds};
+ghost use Rattle.tml_types.specs.Walking.{AddsTyped};
 ghost use Rattle.tml_types.specs.Whole as whole;
 ghost use Rattle.tml_types.specs.Whole.{HasTagFault, IsAtLeastPlace, OfTree, Types};
 
@@ -124,7 +124,7 @@ fn type_tag<'s>(
     tag: &Tag<'s>,
     typed: &mut List<TypedTag<'s>>,
 ) -> Result<(), TypeFault>
-    ensures ok { OnOk result (Adds (elements (tag_node tag.now)) typed.old typed.new) }
+    ensures ok { OnOk result (AddsTyped (elements (tag_node tag.now)) typed.old typed.new) }
     ensures err { IfErr result (λ e. HasTagFault (elements (tag_node tag.now)) e) }
 {
     let of = Attributes {
@@ -149,7 +149,7 @@ fn type_node<'s>(
     node: &Node<'s>,
     typed: &mut List<TypedTag<'s>>,
 ) -> Result<(), TypeFault>
-    ensures ok { OnOk result (Adds (elements (node_of node.now)) typed.old typed.new) }
+    ensures ok { OnOk result (AddsTyped (elements (node_of node.now)) typed.old typed.new) }
     ensures err { IfErr result (λ e. HasTagFault (elements (node_of node.now)) e) }
 {
     match node {

@@ -5,12 +5,12 @@ use Rattle.answers.specs.Judged.{Judgements, judged_rows}
 use Rattle.evidence_answers.specs.Confirmed.{OfConfirm}
 use Rattle.evidence_answers.specs.Files.{evidence_file}
 use Rattle.evidence_answers.specs.Verify.{OfVerify}
-use Rattle.seconds_format.specs.Texts.{first_line}
+use Rattle.seconds_format.specs.Texts.{seconds_first_line}
 use Rattle.runs.specs.Rows.{Rows}
 
 -- it is seconds where its bytes begin with the first line of seconds
 abbrev pub is_seconds : List ℕ → Bool
-is_seconds bytes = starts_with nat_eq bytes first_line
+is_seconds bytes = starts_with nat_eq bytes seconds_first_line
 
 -- if it is seconds then the answer is that of `confirm`, and else that of `verify`
 abbrev pub OfEither : Judgements

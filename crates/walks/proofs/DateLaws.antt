@@ -1,18 +1,18 @@
 -- The points that have a number, one after another.
-use Rattle.std.proofs.Common.{◌≡◌, ◌↔◌, ◌==◌, ℕ, zero, suc, ◌+◌, ◌<◌, ◌≤◌, ℤ, ◌≤ℤ◌, int_cmp, int_lt, is_lt, pos, drop, get_or, false, true, List, Option, Some, None, [], ◌∷◌, ◌++◌, length, length-drop, Bool, refl, ap, sym, subst, arith, below_more}
+use Rattle.std.proofs.Common.{◌≡◌, ◌↔◌, ◌==◌, ℕ, zero, suc, ◌+◌, ◌<◌, ◌≤◌, ℤ, ◌≤ℤ◌, int_cmp, int_lt, is_lt, pos, drop, get_or, false, true, List, Option, Some, None, [], ◌∷◌, ◌++◌, length, length-drop, Bool, refl, ap, subst, arith, below_more}
 use Rattle.std.specs.List.{All, Contains, IsDistinct}
 use Rattle.std.specs.List.Sorted.{IsPartitionPoint, IsPartitionedBy, IsPermutation}
 use Rattle.std.proofs.lemmas.List.{get_or-drop}
 use Rattle.std.proofs.lemmas.List.Elements.{All-from_recursion, All-push, All-weaker, Contains-append_left, Contains-push}
 use Rattle.std.proofs.lemmas.List.Sorted.{All-permutation, Contains-permutation, ranks_by, sorted_far}
 use Rattle.std.proofs.lemmas.Cmp.{back_total, int_cmp_total}
-use Rattle.std.proofs.lemmas.Bool.Decides.{nat_tests}
+use Rattle.std.proofs.lemmas.Bool.Decides.{nat_tests, same_from_decides}
 use Rattle.std.proofs.lemmas.Int.{ints}
 use Rattle.std.proofs.lemmas.List.Folds.{list_any_none}
 use Rattle.std.proofs.lemmas.Map.Keys.{IsDistinct-IsPermutation, IsDistinct-push, IsDistinct-tail}
 use Rattle.std.specs.Cmp.{IsEquivalence}
 use Rattle.walks.proofs.Parts.{dropped}
-use Rattle.walks.specs.Dates.{AreAscending, AreDates, AreDescending, AreFrom, AreOfDistinctPoints, IsDate}
+use Rattle.walks.specs.Dates.{AreAscending, AreDates, AreDescending, AreDatesFrom, AreOfDistinctPoints, IsDateOfPoint}
 use Rattle.walks.specs.declared.dates.Date.{Date}
 
 -- what is read past the end of a list of dates
@@ -24,12 +24,7 @@ abbrev same_point : Date → Date → Bool
 same_point x y = x.point == y.point
 
 same_either_way : (p q : ℕ) → (p == q) ≡ (q == p)
-same_either_way p q = by_test (p == q) (q == p) (λ e. grind (arith, nat_tests)) (λ e. grind (arith, nat_tests))
-  where
-    by_test : (a b : Bool) → (a ≡ true → b ≡ true) → (b ≡ true → a ≡ true) → a ≡ b
-    by_test true b there back = sym (there refl)
-    by_test false true there back = back refl
-    by_test false false there back = refl
+same_either_way p q = same_from_decides {P = (q == p) ≡ true} (p == q) (q == p) (λ e. grind (arith, nat_tests), λ e. grind (arith, nat_tests)) (λ e. e, λ e. e)
 
 same_laws : IsEquivalence same_point
 same_laws = record {
@@ -41,19 +36,19 @@ same_laws = record {
 -- there is none of no points
 pub dates_none : (number : ℕ → Option ℤ) → AreDates number 0 []
 unfolding IsDistinct
-dates_none number = record { right = All-from_recursion (IsDate number 0) [] tt; whole = λ p x lp is. absurd (omega (arith, lp)); once = tt }
+dates_none number = record { right = All-from_recursion (IsDateOfPoint number 0) [] tt; whole = λ p x lp is. absurd (omega (arith, lp)); once = tt }
 
 -- a sort leaves the dates
 pub dates_sorted : (number : ℕ → Option ℤ) (n : ℕ) (dates sorted : List Date) → IsPermutation dates sorted → AreDates number n dates → AreDates number n sorted
 dates_sorted number n dates sorted moved h = record {
-  right = All-permutation (IsDate number n) dates sorted moved h.right;
+  right = All-permutation (IsDateOfPoint number n) dates sorted moved h.right;
   whole = λ p x lp is. Contains-permutation dates sorted (record { number = x; point = p }) moved (h.whole p x lp is);
   once = IsDistinct-IsPermutation same_point (λ x y. same_either_way x.point y.point) dates sorted moved h.once;
 }
 
 -- what is true of points below n is true of those below n + 1
-date_below : (number : ℕ → Option ℤ) (n : ℕ) (dates : List Date) → All (IsDate number n) dates → All (IsDate number (n + 1)) dates
-date_below number n dates all = All-weaker (IsDate number n) (IsDate number (n + 1)) (λ date is. (let lt = is.0 in omega arith, is.1)) dates all
+date_below : (number : ℕ → Option ℤ) (n : ℕ) (dates : List Date) → All (IsDateOfPoint number n) dates → All (IsDateOfPoint number (n + 1)) dates
+date_below number n dates all = All-weaker (IsDateOfPoint number n) (IsDateOfPoint number (n + 1)) (λ date is. (let lt = is.0 in omega arith, is.1)) dates all
 
 -- one point more that has no number
 pub dates_without : (number : ℕ → Option ℤ) (n : ℕ) (dates : List Date) → number n ≡ None → AreDates number n dates → AreDates number (n + 1) dates
@@ -69,11 +64,11 @@ pub dates_with : (number : ℕ → Option ℤ) (n : ℕ) (dates : List Date) (x 
 dates_with number n dates x is h =
     let last : Date = record { number = x; point = n } in
     record {
-      right = All-push (IsDate number (n + 1)) dates last (date_below number n dates h.right) (omega arith, is);
+      right = All-push (IsDateOfPoint number (n + 1)) dates last (date_below number n dates h.right) (omega arith, is);
       whole = λ p y lp e. below_more (λ (q : ℕ). number q ≡ Some y → Contains (dates ++ last ∷ []) (record { number = y; point = q })) n
           (λ q lq k. Contains-append_left dates (last ∷ []) (record { number = y; point = q }) (h.whole q y lq k))
           (λ k. let same : x ≡ y = cc in subst (λ (z : ℤ). Contains (dates ++ last ∷ []) (record { number = z; point = n })) same (Contains-push dates last)) p lp e;
-      once = IsDistinct-push same_laws dates last h.once (list_any_none (same_point last) dates (All-weaker (IsDate number n) (λ date. same_point last date ≡ false) (λ date is. let lt = is.0 in grind (arith, nat_tests)) dates h.right));
+      once = IsDistinct-push same_laws dates last h.once (list_any_none (same_point last) dates (All-weaker (IsDateOfPoint number n) (λ date. same_point last date ≡ false) (λ date is. let lt = is.0 in grind (arith, nat_tests)) dates h.right));
     }
 
 -- what a test of two numbers says
@@ -118,7 +113,7 @@ below_first dates number sorted i j d le lt passes =
 -- the dates from a number on come after those below it
 pub from_number : (dates : List Date) (number : ℤ) (first : ℕ)
     → IsPartitionPoint (λ (date : Date). int_lt date.number number ≡ true) (λ date. int_lt date.number number ≡ false) dates first
-    → AreFrom number dates (drop first dates)
+    → AreDatesFrom number dates (drop first dates)
 from_number dates number first cut date =
     let both = dropped (λ (d : Date). int_lt d.number number) dates first cut date in
     let said = from_test date.number number in

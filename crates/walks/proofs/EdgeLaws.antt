@@ -1,6 +1,6 @@
 -- The steps that a list of edges has.
-use Rattle.std.proofs.Common.{◌≡◌, ◌↔◌, ◌⊎◌, ℕ, ◌+◌, ◌*◌, ◌<◌, Bool, true, false, List, [], length, nat_lt, Some, refl, sym, ap, subst, ◌∙◌, arith, inl, inr}
-use Rattle.std.specs.List.{Contains, slice_get}
+use Rattle.std.proofs.Common.{◌≡◌, ◌↔◌, ◌⊎◌, ℕ, ◌+◌, ◌*◌, ◌<◌, Bool, false, List, [], length, nat_lt, Some, refl, sym, ap, subst, ◌∙◌, arith, inl, inr}
+use Rattle.std.specs.List.{slice_get}
 use Rattle.std.specs.List.Sorted.{IsPermutation}
 use Rattle.std.proofs.lemmas.Bool.{cases_lt, ltb-true}
 use Rattle.std.proofs.lemmas.List.Sorted.{Contains-permutation, IsPermutation-sym}
@@ -15,7 +15,7 @@ use Rattle.net_core.specs.declared.rels.Rel.TheVariants as rel
 use Rattle.net_core.specs.declared.step.Step.{Step}
 use Rattle.net_core.specs.declared.step.Step.TheVariants.{Calendar, Link, Span}
 use Rattle.net_core.proofs.AtomLaws.{atoms_counted}
-use Rattle.walks.specs.Edges.{Adds, AreEdges, IsDated, IsOver, IsSpan}
+use Rattle.walks.specs.Edges.{AddsEdges, AreEdges, IsDated, IsOver, IsSpan}
 use Rattle.walks.specs.declared.edges.Edge.{Edge}
 
 -- what is read past the end of a list of edges
@@ -45,22 +45,22 @@ OverKept keep k step = Kept keep k × IsOver (λ j. j ≡ k) step
 
 module _ (net : PlainNet) where
   -- where the steps of a set go by no order, nothing is added
-  pub adds_nothing : (Listed : Step → Type 0) (edges : List Edge) → ((step : Step) → Listed step → ⊥) → Adds net Listed edges edges
+  pub adds_nothing : (Listed : Step → Type 0) (edges : List Edge) → ((step : Step) → Listed step → ⊥) → AddsEdges net Listed edges edges
   adds_nothing Listed edges none_listed edge = (λ h. inl h, λ h. elim h [ inl old ↦ old | inr new ↦ absurd (none_listed edge.step new.0) ])
 
   -- of no set nothing is added
-  pub adds_none : (Listed : ℕ → Step → Type 0) (edges : List Edge) → Adds net (Below Listed 0) edges edges
+  pub adds_none : (Listed : ℕ → Step → Type 0) (edges : List Edge) → AddsEdges net (Below Listed 0) edges edges
   adds_none Listed edges = adds_nothing (Below Listed 0) edges (λ step h. let lt = h.1 in omega arith)
 
   -- two sets with the same steps that go by an order
-  pub adds_same : (P Q : Step → Type 0) (old new : List Edge) → ((step : Step) (atom : Atom) → atom_of net step ≡ Some atom → P step ↔ Q step) → Adds net P old new → Adds net Q old new
+  pub adds_same : (P Q : Step → Type 0) (old new : List Edge) → ((step : Step) (atom : Atom) → atom_of net step ≡ Some atom → P step ↔ Q step) → AddsEdges net P old new → AddsEdges net Q old new
   adds_same P Q old new same adds edge = (
     λ h. elim ((adds edge).0 h) [ inl was ↦ inl was | inr is ↦ inr ((same edge.step edge.atom is.1).0 is.0, is.1) ],
     λ h. elim h [ inl was ↦ (adds edge).1 (inl was) | inr is ↦ (adds edge).1 (inr ((same edge.step edge.atom is.1).1 is.0, is.1)) ],
   )
 
   -- one set, and then another one
-  pub adds_then : (P Q : Step → Type 0) (old mid new : List Edge) → Adds net P old mid → Adds net Q mid new → Adds net (λ step. P step ⊎ Q step) old new
+  pub adds_then : (P Q : Step → Type 0) (old mid new : List Edge) → AddsEdges net P old mid → AddsEdges net Q mid new → AddsEdges net (λ step. P step ⊎ Q step) old new
   adds_then P Q old mid new first second edge = (
     λ h. elim ((second edge).0 h) [
       | inl was ↦ elim ((first edge).0 was) [ inl was ↦ inl was | inr is ↦ inr (inl is.0, is.1) ]
@@ -76,7 +76,7 @@ module _ (net : PlainNet) where
   )
 
   -- one set more
-  pub adds_more : (Listed : ℕ → Step → Type 0) (n : ℕ) (old mid new : List Edge) → Adds net (Below Listed n) old mid → Adds net (Listed n) mid new → Adds net (Below Listed (n + 1)) old new
+  pub adds_more : (Listed : ℕ → Step → Type 0) (n : ℕ) (old mid new : List Edge) → AddsEdges net (Below Listed n) old mid → AddsEdges net (Listed n) mid new → AddsEdges net (Below Listed (n + 1)) old new
   adds_more Listed n old mid new first second = adds_same (λ step. Below Listed n step ⊎ Listed n step) (Below Listed (n + 1)) old new (λ step atom goes. below_more Listed n step)
       (adds_then (Below Listed n) (Listed n) old mid new first second)
 
@@ -115,7 +115,7 @@ module _ (net : PlainNet) where
     listed (Calendar p q) = (λ h. elim h [ inl is ↦ absurd is | inr is ↦ absurd is ], λ h. absurd (h.0 tt))
 
     -- all edges, in any order
-    pub edges_sorted : (old edges sorted : List Edge) → old ≡ [] → Adds net (λ step. IsSpan step ⊎ IsOver (Kept keep) step) old edges → IsPermutation edges sorted → AreEdges net keep sorted
+    pub edges_sorted : (old edges sorted : List Edge) → old ≡ [] → AddsEdges net (λ step. IsSpan step ⊎ IsOver (Kept keep) step) old edges → IsPermutation edges sorted → AreEdges net keep sorted
     edges_sorted old edges sorted empty adds moved edge = (
       λ h. elim ((adds edge).0 (Contains-permutation sorted edges edge (IsPermutation-sym edges sorted moved) h)) [
         | inl was ↦ let none_long : length old ≡ 0 = ap length empty in let lt = was.1 in absurd (omega arith)

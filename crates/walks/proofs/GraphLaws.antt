@@ -11,10 +11,10 @@ use Rattle.net_core.specs.declared.step.Step.{Step}
 use Rattle.net_core.specs.declared.step.Step.TheVariants.{Calendar, Link, Span}
 use Rattle.net_core.proofs.StepLaws.{ordered, step_in_range}
 use Rattle.walks.specs.Dates as dates
-use Rattle.walks.specs.Dates.{AreBelow, IsDate}
-use Rattle.walks.specs.Edges.{AreFrom, IsDated}
-use Rattle.walks.specs.Graphs.{AreLeaving, IsCalendarWay, IsDateEdge, IsGraph, date_edge}
-use Rattle.walks.specs.States.{Grows, IsExpanded, IsReached, PlainStates, entry_at}
+use Rattle.walks.specs.Dates.{AreDatesBelow, IsDateOfPoint}
+use Rattle.walks.specs.Edges.{AreEdgesFrom, IsDated}
+use Rattle.walks.specs.Graphs.{AreEdgesLeaving, IsCalendarWay, IsDateEdge, IsGraph, date_edge}
+use Rattle.walks.specs.States.{StatesGrow, IsExpanded, IsReached, PlainStates, entry_at}
 use Rattle.walks.specs.declared.dates.Date.{Date}
 use Rattle.walks.specs.declared.edges.Edge.{Edge}
 use Rattle.walks.specs.declared.graph.Graph.{Graph}
@@ -51,38 +51,38 @@ date_way net first second upper_is lower_is order = let test = passes first.numb
 
 module _ (net : PlainNet) (graph : Graph) (is : IsGraph net graph) where
   -- the edges that leave a point lead to points of the net
-  pub leaving : (point : ℕ) (edges : List Edge) → IsNet net → AreFrom point graph.edges.items edges → AreLeaving point (points net) edges
+  pub leaving : (point : ℕ) (edges : List Edge) → IsNet net → AreEdgesFrom point graph.edges.items edges → AreEdgesLeaving point (points net) edges
   leaving point edges net_is from k d lk =
       let edge = get_or edges k d in
       let both = (from edge).0 (Contains-get_or edges k d lk) in
       (both.1, (step_in_range net edge.step edge.atom net_is (All-contains (λ (e : Edge). atom_of net e.step ≡ Some e.atom) graph.edges.items edge is.right both.0)).1)
 
   -- dates of the net are of its points
-  pub dates_below : (number : ℤ) (lowers : List Date) → dates.AreFrom number graph.lowers.items lowers → AreBelow (points net) lowers
+  pub dates_below : (number : ℤ) (lowers : List Date) → dates.AreDatesFrom number graph.lowers.items lowers → AreDatesBelow (points net) lowers
   dates_below number lowers from k d lk =
       let date = get_or lowers k d in
-      (All-contains (IsDate (lower net) (points net)) graph.lowers.items date is.dates.right ((from date).0 (Contains-get_or lowers k d lk)).0).0
+      (All-contains (IsDateOfPoint (lower net) (points net)) graph.lowers.items date is.dates.right ((from date).0 (Contains-get_or lowers k d lk)).0).0
 
   -- the states that listed edges lead to
-  pub listed_expanded : (k : ℕ) (point : ℕ) (edges : List Edge) (old new : PlainStates) → k < length old.entries → point ≡ (entry_at old.entries k).point → AreFrom point graph.edges.items edges
-      → Grows (Contains edges) k old new → All (IsReached new.entries k) edges → IsExpanded (Contains graph.edges.items) new.entries k
+  pub listed_expanded : (k : ℕ) (point : ℕ) (edges : List Edge) (old new : PlainStates) → k < length old.entries → point ≡ (entry_at old.entries k).point → AreEdgesFrom point graph.edges.items edges
+      → StatesGrow (Contains edges) k old new → All (IsReached new.entries k) edges → IsExpanded (Contains graph.edges.items) new.entries k
   listed_expanded k point edges old new lt at from grown reached edge has leaves =
       let here = grown_entry (Contains edges) k k old new lt grown in
       All-contains (IsReached new.entries k) edges edge reached ((from edge).1 (has, leaves ∙ ap (λ (e : Entry). e.point) here ∙ sym at))
 
   -- a step to a date is one of the calendar
-  pub date_ways : (first : Date) (lowers : List Date) → upper net first.point ≡ Some first.number → dates.AreFrom first.number graph.lowers.items lowers
+  pub date_ways : (first : Date) (lowers : List Date) → upper net first.point ≡ Some first.number → dates.AreDatesFrom first.number graph.lowers.items lowers
       → (edge : Edge) → IsDateEdge first lowers edge → IsCalendarWay net edge
   date_ways first lowers upper_is from edge h =
       let second = h.1 in
       let both = (from second).0 (h.0, h.2, h.3) in
-      let date = All-contains (IsDate (lower net) (points net)) graph.lowers.items second is.dates.right both.0 in
+      let date = All-contains (IsDateOfPoint (lower net) (points net)) graph.lowers.items second is.dates.right both.0 in
       subst (IsCalendarWay net) (sym h.4) (tt, date_way net first second upper_is date.1 both.1)
 
   -- the states that steps of the calendar lead to
   pub dates_expanded : (k : ℕ) (first : Date) (lowers : List Date) (old new : PlainStates) → IsNet net → k < length old.entries → first.point ≡ (entry_at old.entries k).point
-      → upper net first.point ≡ Some first.number → dates.AreFrom first.number graph.lowers.items lowers
-      → Grows (IsDateEdge first lowers) k old new → All (λ (second : Date). IsReached new.entries k (date_edge first second)) lowers → IsExpanded (IsCalendarWay net) new.entries k
+      → upper net first.point ≡ Some first.number → dates.AreDatesFrom first.number graph.lowers.items lowers
+      → StatesGrow (IsDateEdge first lowers) k old new → All (λ (second : Date). IsReached new.entries k (date_edge first second)) lowers → IsExpanded (IsCalendarWay net) new.entries k
   dates_expanded k first lowers old new net_is lt at upper_is from grown reached edge way leaves =
       let here = grown_entry (IsDateEdge first lowers) k k old new lt grown in
       let numbers = has_numbers net edge.step edge.atom way.0 way.1 in
@@ -102,8 +102,8 @@ none_expanded net k entries no_upper edge way leaves =
     cc
 
 -- the states that edges of one set lead to, and then those that edges of another one do
-pub expanded_then : (P Q : Edge → Type 0) (k : ℕ) (old mid new : PlainStates) → k < length old.entries → Grows P k old mid → IsExpanded P mid.entries k → Grows Q k mid new → IsExpanded Q new.entries k
-    → Grows (λ edge. P edge ⊎ Q edge) k old new × IsExpanded (λ edge. P edge ⊎ Q edge) new.entries k
+pub expanded_then : (P Q : Edge → Type 0) (k : ℕ) (old mid new : PlainStates) → k < length old.entries → StatesGrow P k old mid → IsExpanded P mid.entries k → StatesGrow Q k mid new → IsExpanded Q new.entries k
+    → StatesGrow (λ edge. P edge ⊎ Q edge) k old new × IsExpanded (λ edge. P edge ⊎ Q edge) new.entries k
 expanded_then P Q k old mid new lt first one second two =
     let still : k < length mid.entries = omega (arith, ap length first.entries ∙ length-append old.entries first.more) in
     let same = grown_entry Q k k mid new still second in (

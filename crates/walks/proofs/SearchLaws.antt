@@ -18,7 +18,7 @@ use Rattle.net_core.specs.declared.step.Step.TheVariants.{Calendar, Link, Span}
 use Rattle.walks.specs.Edges.{AreEdges, IsDated}
 use Rattle.walks.specs.Graphs.{IsWay}
 use Rattle.walks.specs.Search.{IsSearched}
-use Rattle.walks.specs.States.{AreTraced, Grows, HasState, IsExpanded, IsPath, LeadsTo, PlainStates, entry_at, is_end, next_entry, start_at}
+use Rattle.walks.specs.States.{AreTraced, StatesGrow, HasState, IsExpanded, IsPath, EdgeLeadsTo, PlainStates, entry_at, is_end, next_entry, start_entry}
 use Rattle.walks.specs.declared.edges.Edge.{Edge}
 use Rattle.walks.specs.declared.graph.Graph.{Graph}
 use Rattle.walks.specs.declared.states.Arrival.{Arrival}
@@ -27,7 +27,7 @@ use Rattle.walks.proofs.StateLaws.{grown_entry, reached_kept}
 
 module _ (Chosen : Edge → Type 0) where
   -- the entries are traced where they were so and an entry was expanded
-  pub traced_grown : (from k : ℕ) (old new : PlainStates) → k < length old.entries → Grows Chosen k old new → AreTraced Chosen from old.entries → AreTraced Chosen from new.entries
+  pub traced_grown : (from k : ℕ) (old new : PlainStates) → k < length old.entries → StatesGrow Chosen k old new → AreTraced Chosen from old.entries → AreTraced Chosen from new.entries
   traced_grown from k old new lt grown traced j lj = elim (cases_lt j (length old.entries)) [
     | inl before ↦
         let same = grown_entry Chosen k j old new before grown in
@@ -42,13 +42,13 @@ module _ (Chosen : Edge → Type 0) where
     | inr later ↦
         let here = grown_entry Chosen k k old new lt grown in
         let long : length new.entries ≡ length old.entries + length grown.more = ap length grown.entries ∙ length-append old.entries grown.more in
-        let at : entry_at new.entries j ≡ entry_at grown.more (j - length old.entries) = ap (λ (es : List Entry). entry_at es j) grown.entries ∙ get_or-append_right old.entries grown.more (length old.entries) j (start_at 0) refl later in
-        let way = All-get_or (LeadsTo Chosen old.entries k) grown.more (j - length old.entries) (start_at 0) (omega arith) grown.led in
+        let at : entry_at new.entries j ≡ entry_at grown.more (j - length old.entries) = ap (λ (es : List Entry). entry_at es j) grown.entries ∙ get_or-append_right old.entries grown.more (length old.entries) j (start_entry 0) refl later in
+        let way = All-get_or (EdgeLeadsTo Chosen old.entries k) grown.more (j - length old.entries) (start_entry 0) (omega arith) grown.led in
         inr (k, omega arith, (way.0, way.1, way.2 ∙ ap (λ (e : Entry). e.point) (sym here), at ∙ way.3 ∙ ap (λ (e : Entry). next_entry e k way.0) (sym here)))
   ]
 
   -- an entry that is expanded stays so
-  pub expanded_kept : (k j : ℕ) (old new : PlainStates) → j < length old.entries → Grows Chosen k old new → IsExpanded Chosen old.entries j → IsExpanded Chosen new.entries j
+  pub expanded_kept : (k j : ℕ) (old new : PlainStates) → j < length old.entries → StatesGrow Chosen k old new → IsExpanded Chosen old.entries j → IsExpanded Chosen new.entries j
   expanded_kept k j old new lt grown all edge way leaves =
       reached_kept Chosen k j edge old new lt grown (all edge way (leaves ∙ ap (λ (e : Entry). e.point) (grown_entry Chosen k j old new lt grown)))
 
@@ -118,7 +118,7 @@ module _ (net : PlainNet) (keep : List Bool) (graph : Graph) (edges : AreEdges n
     reach all (step ∷ steps) x y strict joined has =
         let atom = joined.0 in
         let goes = joined.1 in
-        let at : entry_at entries has.0 ≡ has.1 = get_or_default entries has.0 (start_at 0) has.1 has.2 ∙ has.3 in
+        let at : entry_at entries has.0 ≡ has.1 = get_or_default entries has.0 (start_entry 0) has.1 has.2 ∙ has.3 in
         let reached = all has.0 has.2 (record { step = step; atom = atom }) (goes_way step atom goes) (joined.2 ∙ sym (ap (λ (e : Entry). e.point) at ∙ has.4.0)) in
         let flag : ((entry_at entries has.0).strict || atom.strict) ≡ (strict || is_strict_order (atom_of net step)) =
         ap (λ (b : Bool). b || atom.strict) (ap (λ (e : Entry). e.strict) at ∙ has.4.1) ∙ ap (λ (b : Bool). strict || b) (sym (ap is_strict_order goes.0)) in
@@ -131,7 +131,7 @@ module _ (net : PlainNet) (keep : List Bool) (graph : Graph) (edges : AreEdges n
         → IsPath states.entries last first steps → IsWalk net (Kept keep) from to strict steps
     found_walk last first steps found lt came path =
         let joined = path_joined from states.entries searched.traced steps last first path in
-        let end = (ends to strict (entry_at states.entries last)).0 (position-Some (is_end to strict) states.entries last (start_at 0) found).1 in
+        let end = (ends to strict (entry_at states.entries last)).0 (position-Some (is_end to strict) states.entries last (start_entry 0) found).1 in
         elim (searched.traced first lt) [
           | inl start ↦ (
             subst (λ (x : ℕ). IsJoined net (Kept keep) steps x to) (ap (λ (e : Entry). e.point) start) (subst (IsJoined net (Kept keep) steps (entry_at states.entries first).point) end.0 joined.0),
@@ -148,7 +148,7 @@ module _ (net : PlainNet) (keep : List Bool) (graph : Graph) (edges : AreEdges n
           | inl end ↦ no_end end
           | inr all ↦
               let start = entry_at states.entries 0 in
-              let first : HasState states.entries from false = (0, start, searched.some, get_or_default states.entries 0 start (start_at 0) searched.some, (ap (λ (e : Entry). e.point) searched.start, ap (λ (e : Entry). e.strict) searched.start)) in
+              let first : HasState states.entries from false = (0, start, searched.some, get_or_default states.entries 0 start (start_entry 0) searched.some, (ap (λ (e : Entry). e.point) searched.start, ap (λ (e : Entry). e.strict) searched.start)) in
               let last = reach from states.entries all walk.0 from to false walk.1.0 first in
               no_end (last.0, last.1, last.2, last.3, (ends to strict last.1).1 (last.4.0, λ e. last.4.1 ∙ walk.1.1 e))
         ]

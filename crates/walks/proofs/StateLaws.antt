@@ -7,7 +7,7 @@ use Rattle.std.proofs.lemmas.List.Elements.{All-append, All-cons, All-more, All-
 use Rattle.std.proofs.lemmas.List.Quantifiers.{Any-push}
 use Rattle.std.proofs.lemmas.List.Sums.{count_by-le-length, sum_by-set}
 use Rattle.net_core.specs.declared.step.Step.{Step}
-use Rattle.walks.specs.States.{AreMarked, Grows, HasState, IsOf, IsPath, IsReached, LeadsTo, PlainStates, Visits, entry_at, next_entry, place, start_at}
+use Rattle.walks.specs.States.{AreMarked, StatesGrow, HasState, IsStateEntry, IsPath, IsReached, EdgeLeadsTo, PlainStates, VisitsState, entry_at, next_entry, place, start_entry}
 use Rattle.walks.specs.declared.edges.Edge.{Edge}
 use Rattle.walks.specs.declared.states.Arrival.{Arrival}
 use Rattle.walks.specs.declared.states.Entry.{Entry}
@@ -38,8 +38,8 @@ marked_push entries seen entry at is lt no_mark marked =
     record {
       even = rw long marked.even;
       held = λ p strict has. elim (cases_eq (place p strict) at) [
-        | inl same ↦ let both = one_state entry.point p entry.strict strict (sym is ∙ sym same) in Any-push (IsOf p strict) entries entry both
-        | inr other ↦ any_more (IsOf p strict) entries (entry ∷ []) (marked.held p strict (sym (get_or-set_other seen at (place p strict) true false other) ∙ has))
+        | inl same ↦ let both = one_state entry.point p entry.strict strict (sym is ∙ sym same) in Any-push (IsStateEntry p strict) entries entry both
+        | inr other ↦ any_more (IsStateEntry p strict) entries (entry ∷ []) (marked.held p strict (sym (get_or-set_other seen at (place p strict) true false other) ∙ has))
       ];
       counted = omega (arith, length-append entries (entry ∷ []), count, marked.counted);
       below = rw long (All-push (λ (e : Entry). e.point < length seen / 2) entries entry marked.below lt);
@@ -51,20 +51,20 @@ few_entries entries seen marked = omega (arith, marked.counted, marked.even, cou
 
 -- an entry stays where more follow
 pub same_entry : (entries more : List Entry) (k : ℕ) → k < length entries → entry_at (entries ++ more) k ≡ entry_at entries k
-same_entry entries more k lt = get_or_append_left entries more (start_at 0) k lt
+same_entry entries more k lt = get_or_append_left entries more (start_entry 0) k lt
 
 -- a visit of the entry that an edge leads to
-pub followed : (old new : PlainStates) (k : ℕ) (edge : Edge) → k < length old.entries → edge.atom.from ≡ (entry_at old.entries k).point → Visits (next_entry (entry_at old.entries k) k edge) old new
-    → Grows (λ e. e ≡ edge) k old new × IsReached new.entries k edge
+pub followed : (old new : PlainStates) (k : ℕ) (edge : Edge) → k < length old.entries → edge.atom.from ≡ (entry_at old.entries k).point → VisitsState (next_entry (entry_at old.entries k) k edge) old new
+    → StatesGrow (λ e. e ≡ edge) k old new × IsReached new.entries k edge
 followed old new k edge lt from visits =
     let entry = next_entry (entry_at old.entries k) k edge in
     elim visits.grown [
       | inl same ↦ (
-        record { points = visits.points; more = []; entries = same ∙ sym (append-nil old.entries); led = All-nil (LeadsTo (λ e. e ≡ edge) old.entries k) },
+        record { points = visits.points; more = []; entries = same ∙ sym (append-nil old.entries); led = All-nil (EdgeLeadsTo (λ e. e ≡ edge) old.entries k) },
         subst (λ (es : List Entry). HasState new.entries edge.atom.to ((entry_at es k).strict || edge.atom.strict)) (sym same) visits.there,
       )
       | inr one ↦ (
-        record { points = visits.points; more = entry ∷ []; entries = one; led = All-cons (LeadsTo (λ e. e ≡ edge) old.entries k) entry [] (edge, refl, from, refl) (All-nil (LeadsTo (λ e. e ≡ edge) old.entries k)) },
+        record { points = visits.points; more = entry ∷ []; entries = one; led = All-cons (EdgeLeadsTo (λ e. e ≡ edge) old.entries k) entry [] (edge, refl, from, refl) (All-nil (EdgeLeadsTo (λ e. e ≡ edge) old.entries k)) },
         subst (λ (e : Entry). HasState new.entries edge.atom.to (e.strict || edge.atom.strict)) (sym (same_entry old.entries (entry ∷ []) k lt) ∙ ap (λ (es : List Entry). entry_at es k) (sym one)) visits.there,
       )
     ]
@@ -75,36 +75,36 @@ pub path_more : (entries : List Entry) (last k : ℕ) (arrival : Arrival) (steps
 path_more entries last k arrival steps lt came path = rw reverse-append (k, lt, came, path)
 
 -- edges of a wider set
-pub grows_wider : (P Q : Edge → Type 0) (k : ℕ) (old new : PlainStates) → ((edge : Edge) → P edge → Q edge) → Grows P k old new → Grows Q k old new
+pub grows_wider : (P Q : Edge → Type 0) (k : ℕ) (old new : PlainStates) → ((edge : Edge) → P edge → Q edge) → StatesGrow P k old new → StatesGrow Q k old new
 grows_wider P Q k old new wider grown = record {
   points = grown.points;
   more = grown.more;
   entries = grown.entries;
-  led = All-weaker (LeadsTo P old.entries k) (LeadsTo Q old.entries k) (λ entry h. (h.0, wider h.0 h.1, h.2, h.3)) grown.more grown.led;
+  led = All-weaker (EdgeLeadsTo P old.entries k) (EdgeLeadsTo Q old.entries k) (λ entry h. (h.0, wider h.0 h.1, h.2, h.3)) grown.more grown.led;
 }
 
 -- an entry stays where the states grow
-pub grown_entry : (IsWay : Edge → Type 0) (k j : ℕ) (old new : PlainStates) → j < length old.entries → Grows IsWay k old new → entry_at new.entries j ≡ entry_at old.entries j
+pub grown_entry : (IsWay : Edge → Type 0) (k j : ℕ) (old new : PlainStates) → j < length old.entries → StatesGrow IsWay k old new → entry_at new.entries j ≡ entry_at old.entries j
 grown_entry IsWay k j old new lt grown = ap (λ (es : List Entry). entry_at es j) grown.entries ∙ same_entry old.entries grown.more j lt
 
 -- some states, and then others
-pub grows_then : (IsWay : Edge → Type 0) (k : ℕ) (old mid new : PlainStates) → k < length old.entries → Grows IsWay k old mid → Grows IsWay k mid new → Grows IsWay k old new
+pub grows_then : (IsWay : Edge → Type 0) (k : ℕ) (old mid new : PlainStates) → k < length old.entries → StatesGrow IsWay k old mid → StatesGrow IsWay k mid new → StatesGrow IsWay k old new
 grows_then IsWay k old mid new lt first second =
     let here = grown_entry IsWay k k old mid lt first in
     record {
       points = second.points ∙ first.points;
       more = first.more ++ second.more;
       entries = second.entries ∙ ap (λ (es : List Entry). es ++ second.more) first.entries ∙ append_assoc old.entries first.more second.more;
-      led = All-append (LeadsTo IsWay old.entries k) first.more second.more first.led (All-weaker (LeadsTo IsWay mid.entries k) (LeadsTo IsWay old.entries k)
+      led = All-append (EdgeLeadsTo IsWay old.entries k) first.more second.more first.led (All-weaker (EdgeLeadsTo IsWay mid.entries k) (EdgeLeadsTo IsWay old.entries k)
           (λ entry h. (h.0, h.1, h.2 ∙ ap (λ (e : Entry). e.point) here, h.3 ∙ ap (λ (e : Entry). next_entry e k h.0) here)) second.more second.led);
     }
 
 -- a state that was visited stays so
-pub state_kept : (IsWay : Edge → Type 0) (k p : ℕ) (strict : Bool) (old new : PlainStates) → Grows IsWay k old new → HasState old.entries p strict → HasState new.entries p strict
-state_kept IsWay k p strict old new grown has = subst (λ (es : List Entry). HasState es p strict) (sym grown.entries) (any_more (IsOf p strict) old.entries grown.more has)
+pub state_kept : (IsWay : Edge → Type 0) (k p : ℕ) (strict : Bool) (old new : PlainStates) → StatesGrow IsWay k old new → HasState old.entries p strict → HasState new.entries p strict
+state_kept IsWay k p strict old new grown has = subst (λ (es : List Entry). HasState es p strict) (sym grown.entries) (any_more (IsStateEntry p strict) old.entries grown.more has)
 
 -- and so does one that an edge leads to
-pub reached_kept : (IsWay : Edge → Type 0) (k j : ℕ) (edge : Edge) (old new : PlainStates) → j < length old.entries → Grows IsWay k old new → IsReached old.entries j edge → IsReached new.entries j edge
+pub reached_kept : (IsWay : Edge → Type 0) (k j : ℕ) (edge : Edge) (old new : PlainStates) → j < length old.entries → StatesGrow IsWay k old new → IsReached old.entries j edge → IsReached new.entries j edge
 reached_kept IsWay k j edge old new lt grown has =
     subst (λ (e : Entry). HasState new.entries edge.atom.to (e.strict || edge.atom.strict)) (sym (grown_entry IsWay k j old new lt grown)) (state_kept IsWay k edge.atom.to ((entry_at old.entries j).strict || edge.atom.strict) old new grown has)
 
@@ -112,9 +112,9 @@ reached_kept IsWay k j edge old new lt grown has =
 module _ {X : Type 0} (edge_of : X → Edge) (xs : List X) (IsWay : Edge → Type 0) (k : ℕ) where
   -- one more
   pub follows_more : (i : ℕ) (x : X) (edge : Edge) (old mid new : PlainStates) → k < length old.entries → i < length xs → edge ≡ edge_of (get_or xs i x) → IsWay (edge_of (get_or xs i x))
-      → Grows IsWay k old mid → All (λ (y : X). IsReached mid.entries k (edge_of y)) (take i xs)
-      → Grows (λ e. e ≡ edge) k mid new → IsReached new.entries k edge
-      → Grows IsWay k old new × All (λ (y : X). IsReached new.entries k (edge_of y)) (take (i + 1) xs)
+      → StatesGrow IsWay k old mid → All (λ (y : X). IsReached mid.entries k (edge_of y)) (take i xs)
+      → StatesGrow (λ e. e ≡ edge) k mid new → IsReached new.entries k edge
+      → StatesGrow IsWay k old new × All (λ (y : X). IsReached new.entries k (edge_of y)) (take (i + 1) xs)
   follows_more i x edge old mid new lt li is way grown reached one here =
       let still : k < length mid.entries = omega (arith, ap length grown.entries ∙ length-append old.entries grown.more) in (
         grows_then IsWay k old mid new lt grown (grows_wider (λ e. e ≡ edge) IsWay k mid new (λ e same. subst IsWay (sym (same ∙ is)) way) one),

@@ -25,17 +25,17 @@ IsDated (Calendar p q) = ⊤
 IsDated step = ⊥
 
 -- the new list has the old edges, and those steps of a set that go by an order
-abbrev pub Adds : PlainNet → (Step → Type 0) → List Edge → List Edge → Type 0
-Adds net Listed old new = (edge : Edge) → Contains new edge ↔ (Contains old edge ⊎ (Listed edge.step × (atom_of net edge.step ≡ Some edge.atom)))
+abbrev pub AddsEdges : PlainNet → (Step → Type 0) → List Edge → List Edge → Type 0
+AddsEdges net Listed old new = (edge : Edge) → Contains new edge ↔ (Contains old edge ⊎ (Listed edge.step × (atom_of net edge.step ≡ Some edge.atom)))
 
 -- the list has all steps but those of the calendar, over the links that are kept
 abbrev pub AreEdges : PlainNet → List Bool → List Edge → Type 0
 AreEdges net keep edges = (edge : Edge) → Contains edges edge ↔ ((IsDated edge.step → ⊥) × GoesBy net (Kept keep) edge.step edge.atom)
 
 -- the edges that leave the lowest point come first
-abbrev pub AreSorted : List Edge → Type 0
-AreSorted edges = IsNonDecreasingBy (λ (edge : Edge). edge.atom.from) edges
+abbrev pub AreEdgesSorted : List Edge → Type 0
+AreEdgesSorted edges = IsNonDecreasingBy (λ (edge : Edge). edge.atom.from) edges
 
 -- the edges that leave a point, of all of a list
-abbrev pub AreFrom : ℕ → List Edge → List Edge → Type 0
-AreFrom point all edges = (edge : Edge) → Contains edges edge ↔ (Contains all edge × (edge.atom.from ≡ point))
+abbrev pub AreEdgesFrom : ℕ → List Edge → List Edge → Type 0
+AreEdgesFrom point all edges = (edge : Edge) → Contains edges edge ↔ (Contains all edge × (edge.atom.from ≡ point))

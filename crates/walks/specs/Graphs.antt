@@ -5,7 +5,7 @@ use Rattle.net_core.specs.Nets.{PlainNet, lower, points}
 use Rattle.net_core.specs.Steps.{atom_of}
 use Rattle.net_core.specs.declared.step.Step.TheVariants.{Calendar}
 use Rattle.walks.specs.Dates.{AreAscending, AreDates}
-use Rattle.walks.specs.Edges.{AreSorted, IsDated}
+use Rattle.walks.specs.Edges.{AreEdgesSorted, IsDated}
 use Rattle.walks.specs.declared.dates.Date.{Date}
 use Rattle.walks.specs.declared.edges.Edge.{Edge}
 use Rattle.walks.specs.declared.graph.Graph.{Graph}
@@ -13,7 +13,7 @@ use Rattle.walks.specs.declared.graph.Graph.{Graph}
 -- Each listed step goes by its order, and those that leave the lowest point come first. There is a date for each point with a lower number, and the least number comes first.
 pub record IsGraph (net : PlainNet) (graph : Graph) : Type 0 where
   pub right : All (λ (edge : Edge). atom_of net edge.step ≡ Some edge.atom) graph.edges.items
-  pub sorted : AreSorted graph.edges.items
+  pub sorted : AreEdgesSorted graph.edges.items
   pub dates : AreDates (lower net) (points net) graph.lowers.items
   pub ascending : AreAscending graph.lowers.items
 
@@ -26,8 +26,8 @@ abbrev pub IsWay : PlainNet → Graph → Edge → Type 0
 IsWay net graph edge = Contains graph.edges.items edge ⊎ IsCalendarWay net edge
 
 -- all edges leave a point, to points below n
-abbrev pub AreLeaving : ℕ → ℕ → List Edge → Type 0
-AreLeaving point n edges = All (λ (edge : Edge). (edge.atom.from ≡ point) × (edge.atom.to < n)) edges
+abbrev pub AreEdgesLeaving : ℕ → ℕ → List Edge → Type 0
+AreEdgesLeaving point n edges = All (λ (edge : Edge). (edge.atom.from ≡ point) × (edge.atom.to < n)) edges
 
 -- the step of the calendar from a point with an upper number to one with a lower number
 abbrev pub date_edge : Date → Date → Edge

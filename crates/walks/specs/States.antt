@@ -11,20 +11,20 @@ pub record PlainStates : Type 0 where
   pub points : ℕ
 
 -- the entry that a search starts at
-abbrev pub start_at : ℕ → Entry
-start_at p = record { point = p; strict = false; arrival = None }
+abbrev pub start_entry : ℕ → Entry
+start_entry p = record { point = p; strict = false; arrival = None }
 
 -- entry k, counted from 0
 abbrev pub entry_at : List Entry → ℕ → Entry
-entry_at entries k = slice_index_or entries k (start_at 0)
+entry_at entries k = slice_index_or entries k (start_entry 0)
 
 -- the entry is of this state
-abbrev pub IsOf : ℕ → Bool → Entry → Type 0
-IsOf p strict entry = (entry.point ≡ p) × (entry.strict ≡ strict)
+abbrev pub IsStateEntry : ℕ → Bool → Entry → Type 0
+IsStateEntry p strict entry = (entry.point ≡ p) × (entry.strict ≡ strict)
 
 -- some entry is of this state
 abbrev pub HasState : List Entry → ℕ → Bool → Type 0
-HasState entries p strict = Any (IsOf p strict) entries
+HasState entries p strict = Any (IsStateEntry p strict) entries
 
 -- where the mark of a state stands
 abbrev pub place : ℕ → Bool → ℕ
@@ -38,7 +38,7 @@ pub record AreMarked (entries : List Entry) (seen : List Bool) : Type 0 where
   pub below : All (λ (entry : Entry). entry.point < length seen / 2) entries
 
 -- the entry is put last, unless there is one of its state
-pub record Visits (entry : Entry) (old new : PlainStates) : Type 0 where
+pub record VisitsState (entry : Entry) (old new : PlainStates) : Type 0 where
   pub points : new.points ≡ old.points
   pub grown : (new.entries ≡ old.entries) ⊎ (new.entries ≡ old.entries ++ entry ∷ [])
   pub there : HasState new.entries entry.point entry.strict
@@ -52,19 +52,19 @@ abbrev pub IsReached : List Entry → ℕ → Edge → Type 0
 IsReached entries k edge = HasState entries edge.atom.to ((entry_at entries k).strict || edge.atom.strict)
 
 -- an edge of a set leads from entry k to an entry
-abbrev pub LeadsTo : (Edge → Type 0) → List Entry → ℕ → Entry → Type 0
-LeadsTo IsWay entries k entry = (edge : Edge) × IsWay edge × (edge.atom.from ≡ (entry_at entries k).point) × (entry ≡ next_entry (entry_at entries k) k edge)
+abbrev pub EdgeLeadsTo : (Edge → Type 0) → List Entry → ℕ → Entry → Type 0
+EdgeLeadsTo IsWay entries k entry = (edge : Edge) × IsWay edge × (edge.atom.from ≡ (entry_at entries k).point) × (entry ≡ next_entry (entry_at entries k) k edge)
 
 -- the entries are the old ones, and some that edges of a set lead to from entry k
-pub record Grows (IsWay : Edge → Type 0) (k : ℕ) (old new : PlainStates) : Type 0 where
+pub record StatesGrow (IsWay : Edge → Type 0) (k : ℕ) (old new : PlainStates) : Type 0 where
   pub points : new.points ≡ old.points
   pub more : List Entry
   pub entries : new.entries ≡ old.entries ++ more
-  pub led : All (LeadsTo IsWay old.entries k) more
+  pub led : All (EdgeLeadsTo IsWay old.entries k) more
 
 -- each entry starts the search, or an edge of a set leads to it from an earlier one
 abbrev pub AreTraced : (Edge → Type 0) → ℕ → List Entry → Type 0
-AreTraced IsWay from entries = (k : ℕ) → k < length entries → (entry_at entries k ≡ start_at from) ⊎ ((parent : ℕ) × (parent < k) × LeadsTo IsWay entries parent (entry_at entries k))
+AreTraced IsWay from entries = (k : ℕ) → k < length entries → (entry_at entries k ≡ start_entry from) ⊎ ((parent : ℕ) × (parent < k) × EdgeLeadsTo IsWay entries parent (entry_at entries k))
 
 -- what the edges of a set lead to from entry k was visited
 abbrev pub IsExpanded : (Edge → Type 0) → List Entry → ℕ → Type 0

@@ -1,7 +1,7 @@
 //! The points that the calendar gives numbers.
 ghost use Rattle.net_core.specs.Nets.{lower, points, upper};
 ghost use Rattle.std.specs.Prelude.{IfOk, ◌<◌, ◌≡◌};
-ghost use Rattle.walks.specs.Dates.{AreAscending, AreDates, AreDescending, AreFrom, AreOfDistinctPoints, number_at};
+ghost use Rattle.walks.specs.Dates.{AreAscending, AreDates, AreDescending, AreDatesFrom, AreOfDistinctPoints, number_at};
 
 use net_core::{Memory, Net};
 use std::alloc::Global;
@@ -52,7 +52,7 @@ pub fn uppers_of(alloc: Global, net: &Net) -> Result<Vec<Date>, Memory>
 /// The dates whose numbers are not below a number, of dates with the least number first.
 pub fn dates_from(dates: &[Date], number: i64) -> &[Date]
     requires { AreAscending dates.now }
-    ensures dates { AreFrom number dates.now result.now }
+    ensures dates { AreDatesFrom number dates.now result.now }
     ensures sorted { AreAscending result.now }
     ensures once { AreOfDistinctPoints dates.now → AreOfDistinctPoints result.now }
 {

@@ -2,11 +2,11 @@
 ghost use Rattle.std.specs.Prelude.{IfOk, OnOk, length, ◌<◌, ◌≡◌};
 ghost use Rattle.std.specs.List.{All, Contains};
 ghost use Rattle.net_core.specs.Nets.{IsNet, points};
-ghost use Rattle.walks.specs.Dates.{AreBelow};
+ghost use Rattle.walks.specs.Dates.{AreDatesBelow};
 ghost use Rattle.walks.specs.Edges.{AreEdges};
 ghost use Rattle.walks.specs.Graphs as spec;
-ghost use Rattle.walks.specs.Graphs.{AreLeaving, IsCalendarWay, IsDateEdge, IsGraph, IsWay};
-ghost use Rattle.walks.specs.States.{Grows, IsExpanded, IsReached, entry_at};
+ghost use Rattle.walks.specs.Graphs.{AreEdgesLeaving, IsCalendarWay, IsDateEdge, IsGraph, IsWay};
+ghost use Rattle.walks.specs.States.{StatesGrow, IsExpanded, IsReached, entry_at};
 
 use crate::dates::{Date, dates_from, lowers_of};
 use crate::edges::{Edge, edges_from, edges_of};
@@ -40,7 +40,7 @@ impl Graph {
         requires net { IsNet net.now }
         requires points { states.old.points ≡ points net.now }
         requires head { head < length states.old.entries }
-        ensures grown { OnOk result (Grows (IsWay net.now self.now) head states.old states.new) }
+        ensures grown { OnOk result (StatesGrow (IsWay net.now self.now) head states.old states.new) }
         ensures expanded { OnOk result (IsExpanded (IsWay net.now self.now) states.new.entries head) }
     {
         self.follow_listed(net, states, head)?;
@@ -54,7 +54,7 @@ impl Graph {
         requires net { IsNet net.now }
         requires points { states.old.points ≡ points net.now }
         requires head { head < length states.old.entries }
-        ensures grown { OnOk result (Grows (Contains self.now.edges.items) head states.old states.new) }
+        ensures grown { OnOk result (StatesGrow (Contains self.now.edges.items) head states.old states.new) }
         ensures expanded { OnOk result (IsExpanded (Contains self.now.edges.items) states.new.entries head) }
     {
         let point = states.entry(head).point;
@@ -68,7 +68,7 @@ impl Graph {
         requires net { IsNet net.now }
         requires points { states.old.points ≡ points net.now }
         requires head { head < length states.old.entries }
-        ensures grown { OnOk result (Grows (IsCalendarWay net.now) head states.old states.new) }
+        ensures grown { OnOk result (StatesGrow (IsCalendarWay net.now) head states.old states.new) }
         ensures expanded { OnOk result (IsExpanded (IsCalendarWay net.now) states.new.entries head) }
     {
         let point = states.entry(head).point;
@@ -84,8 +84,8 @@ impl Graph {
 /// Visits the states that edges lead to from the entry of this number.
 fn follow_edges(states: &mut States, head: usize, edges: &[Edge]) -> Result<(), Memory>
     requires head { head < length states.old.entries }
-    requires leaving { AreLeaving (entry_at states.old.entries head).point states.old.points edges.now }
-    ensures grown { OnOk result (Grows (Contains edges.now) head states.old states.new) }
+    requires leaving { AreEdgesLeaving (entry_at states.old.entries head).point states.old.points edges.now }
+    ensures grown { OnOk result (StatesGrow (Contains edges.now) head states.old states.new) }
     ensures reached { OnOk result (All (IsReached states.new.entries head) edges.now) }
 {
     for edge in edges {
@@ -104,8 +104,8 @@ fn follow_dates(
 ) -> Result<(), Memory>
     requires head { head < length states.old.entries }
     requires upper { upper.point ≡ (entry_at states.old.entries head).point }
-    requires lowers { AreBelow states.old.points lowers.now }
-    ensures grown { OnOk result (Grows (IsDateEdge upper lowers.now) head states.old states.new) }
+    requires lowers { AreDatesBelow states.old.points lowers.now }
+    ensures grown { OnOk result (StatesGrow (IsDateEdge upper lowers.now) head states.old states.new) }
     ensures reached { OnOk result (All (λ lower. IsReached states.new.entries head (spec.date_edge upper lower))
         lowers.now) }
 {

@@ -2,7 +2,7 @@
 ghost use Rattle.std.specs.List.{position};
 ghost use Rattle.std.specs.Prelude.{IfOk, IsTrue, OnOk, [], length, ◌*◌, ◌<◌, ◌≡◌, ◌≤◌};
 ghost use Rattle.walks.specs.States as spec;
-ghost use Rattle.walks.specs.States.{AreEarlier, Grows, HasEnd, HasState, IsReached, IsTrace, Visits, entry_at, is_end};
+ghost use Rattle.walks.specs.States.{AreEarlier, StatesGrow, HasEnd, HasState, IsReached, IsTrace, VisitsState, entry_at, is_end};
 
 use crate::edges::Edge;
 use net_core::{Memory, Step, Walk};
@@ -83,7 +83,7 @@ impl States {
     /// Appends an entry, unless one with its point and flag is there.
     pub fn visit(&mut self, entry: Entry) -> Result<(), Memory>
         requires { entry.point < self.old.points }
-        ensures { OnOk result (Visits entry self.old self.new) }
+        ensures { OnOk result (VisitsState entry self.old self.new) }
     {
         let place = place_of(entry.point, entry.strict);
         if self.seen[place] {
@@ -99,7 +99,7 @@ impl States {
         requires head { head < length self.old.entries }
         requires from { edge.atom.from ≡ (entry_at self.old.entries head).point }
         requires to { edge.atom.to < self.old.points }
-        ensures grown { OnOk result (Grows (λ e. e ≡ edge) head self.old self.new) }
+        ensures grown { OnOk result (StatesGrow (λ e. e ≡ edge) head self.old self.new) }
         ensures reached { OnOk result (IsReached self.new.entries head edge) }
     {
         let here = self.entry(head);

@@ -7,7 +7,7 @@ use Rattle.clash.proofs.closed_walk.thin.Given as goal
 abbrev pub invariant-loop-link : goal.invariant-loop-link
 invariant-loop-link l = record {
   end : l.link-end ≡ length l.net.links;
-  round : IsMarkedWalk l.net l.round;
-  spared : IsSpared l.net (Kept l.round.over.items) l.needed;
-  so_far : (k : ℕ) → k < l.link → Kept l.round.over.items k → IsSpared l.net (Kept l.round.over.items) k;
+  closed : IsMarkedWalk l.net l.closed;
+  spared : IsSpared l.net (Kept l.closed.over.items) l.needed;
+  so_far : (k : ℕ) → k < l.link → Kept l.closed.over.items k → IsSpared l.net (Kept l.closed.over.items) k;
 }

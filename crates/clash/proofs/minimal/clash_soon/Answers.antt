@@ -4,7 +4,7 @@ use Rattle.net_core.specs.Fits.{EveryLink}
 use Rattle.net_core.specs.Nets.{points}
 use Rattle.net_core.specs.Walks.{IsClosedWalk, Kept}
 use Rattle.net_core.specs.declared.walk.Walk.{Walk}
-use Rattle.net_core.proofs.WalkLaws.{round_more}
+use Rattle.net_core.proofs.WalkLaws.{closed_walk_more}
 use Rattle.clash.proofs.minimal.clash_soon.Goals as goal
 
 pub new-requires-clause-goes : goal.new-requires-clause-goes
@@ -12,4 +12,4 @@ new-requires-clause-goes c =
     let net = c.args.net.now in
     let keep = c.deref.result.now in
     let goes = subst (λ (o : Option Walk). IfSome o (λ steps. IsClosedWalk net (Kept keep) steps × (length steps ≤ 2 * points net))) c.in-Some-2.is c.in_ok-walk.ensures.some in
-    round_more net (Kept keep) EveryLink c.in-Some-2.walk (λ k kept. tt) goes.0
+    closed_walk_more net (Kept keep) EveryLink c.in-Some-2.walk (λ k kept. tt) goes.0

@@ -5,4 +5,4 @@ use Rattle.clash.proofs.spares.spares_of.Given as goal
 
 -- there is a spare for each cite so far
 abbrev pub invariant-loop-cite : goal.invariant-loop-cite
-invariant-loop-cite l = AreSpares l.net (Kept l.round.over.items) (take l.cite-index l.cites) l.spares
+invariant-loop-cite l = AreSpares l.net (Kept l.closed.over.items) (take l.cite-index l.cites) l.spares

@@ -9,10 +9,10 @@ pub loop-i-preserved : goal.loop-i-preserved
 loop-i-preserved c =
     let n = length c.args.hidden.now in
     let some : 1 ≤ c.loop-i.i = omega arith in
-    let before = flat_map texts.link_line (flat_map (links_from n) (range_with_len 1 (c.loop-i.i - 1))) in
-    let after = flat_map texts.link_line (flat_map (links_from n) (range_with_len 1 (c.loop-i.i + 1 - 1))) in
+    let before = flat_map texts.drill_link_line (flat_map (links_from n) (range_with_len 1 (c.loop-i.i - 1))) in
+    let after = flat_map texts.drill_link_line (flat_map (links_from n) (range_with_len 1 (c.loop-i.i + 1 - 1))) in
     record {
-      text = put_after c.args.out.now.items before (flat_map texts.link_line (links_from n c.loop-i.i)) after c.loop-i.out.items c.push_links_from.new.out.items
+      text = put_after c.args.out.now.items before (flat_map texts.drill_link_line (links_from n c.loop-i.i)) after c.loop-i.out.items c.push_links_from.new.out.items
           c.loop-i.invariant.text c.in_ok-push_links_from.ensures.text (links_from_more n c.loop-i.i some);
       last = c.in_ok-push_links_from.ensures.draws ∙ ap (drawn n) (omega arith);
       within = omega arith;

@@ -22,4 +22,4 @@ pub returns-clause-text : goal.returns-clause-text
 returns-clause-text c =
     let n = length c.args.hidden.now in
     let end : c.loop.counter ≡ 3 = omega arith in
-    subst (λ (k : ℕ). c.loop.out.items ≡ c.args.out.now.items ++ flat_map texts.link_line (filter_map (λ (time : ℕ). spec.link_between n c.args.i (spec.partner n c.args.i time)) (range_with_len 1 k))) end c.loop.invariant.text
+    subst (λ (k : ℕ). c.loop.out.items ≡ c.args.out.now.items ++ flat_map texts.drill_link_line (filter_map (λ (time : ℕ). spec.link_between n c.args.i (spec.partner n c.args.i time)) (range_with_len 1 k))) end c.loop.invariant.text

@@ -3,7 +3,7 @@ use Rattle.std.proofs.lemmas.Result.{IfOk-weaker}
 use Rattle.evidence_format.proofs.Claims.{are_claims}
 use Rattle.tml_io.specs.Files.{IsThere, Files}
 use Rattle.runs.specs.Rows.{Rows}
-use Rattle.runs.specs.TwoFiles.{IsPassed, after_first}
+use Rattle.runs.specs.TwoFiles.{IsNotRefused, after_first}
 use Rattle.runs.specs.View.{finding_status}
 use Rattle.runs.proofs.HowItEnds.{answered_or_not, counted_on, stopped}
 use Rattle.runs.proofs.TwoFiles.{refused_or_not}
@@ -67,7 +67,7 @@ returns-clause-reply g c =
     let first = c.in-Ok.ensures.gives in
     let second = rw c.in-Ok.ensures.files at c.in-Err-read.ensures.gives in
     let given = rw c.as_slice.ensures at c.in-Ok-bodies_of.ensures.ok in
-    let passed : IsPassed evidence c.in-Ok.first = (given.0, given.1) in
+    let passed : IsNotRefused evidence c.in-Ok.first = (given.0, given.1) in
     let replies = stopped _ rows (_ ∷ []) other _ _ second.0 (first.0 + second.0)
     (one, refl, first.1.0, tt) (passed, refl) second.1 (omega (arith, first.1.1)) in
     record {

@@ -2,7 +2,7 @@ use Rattle.std.proofs.Common.{◌+◌, ◌↔◌, length, drop, get_or, subst, s
 use Rattle.std.specs.List.{All}
 use Rattle.std.proofs.lemmas.List.Elements.{All-drop}
 use Rattle.net_core.specs.Ranks.{timeline_of}
-use Rattle.evidence_check.specs.Pairs.{AreRuns, IsKept, IsWithin}
+use Rattle.evidence_check.specs.Pairs.{AreRuns, IsKept, IsPairWithin}
 use Rattle.evidence_check.specs.declared.pairs.Pair.{Pair}
 use Rattle.evidence_check.proofs.RunLaws.{in_two, runs_on, tests_on}
 use Rattle.evidence_check.proofs.runs.are_kept.Goals as goal
@@ -18,7 +18,7 @@ loop-len-preserved c =
     let back = c.split_at.ensures.back in
     let two : All Kept rest ↔ (All Kept c.split_at.result.0.now × All Kept c.split_at.result.1.now) = rw (front, back) (in_two Kept len rest) in
     record {
-      within = subst (All (IsWithin c.args.order (length c.args.ranks.now))) (sym back) (All-drop (IsWithin c.args.order (length c.args.ranks.now)) len rest so_far.within);
+      within = subst (All (IsPairWithin c.args.order (length c.args.ranks.now))) (sym back) (All-drop (IsPairWithin c.args.order (length c.args.ranks.now)) len rest so_far.within);
       runs = subst (AreRuns (drop (c.loop-len.len-index + 1) c.args.lens.now)) (sym back) runs.2;
       kept = tests_on c.loop-len.all c.is_run_kept-all.result _ _ _ _ so_far.kept c.is_run_kept-all.ensures two;
     }

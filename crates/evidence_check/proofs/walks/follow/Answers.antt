@@ -1,6 +1,7 @@
 use Rattle.std.proofs.Common.{sym, subst, arith}
-use Rattle.evidence_check.specs.Following.{StopsAt}
-use Rattle.evidence_check.proofs.Proving.{followed_more, none_given, stops_here}
+use Rattle.evidence_check.specs.Following.{StepsStopAt}
+use Rattle.net_core.proofs.FirstLaws.{none_given}
+use Rattle.evidence_check.proofs.Proving.{followed_more, stops_here}
 use Rattle.evidence_check.proofs.walks.follow.Goals as goal
 
 pub returns-in_default-clause-err : goal.returns-in_default-clause-err
@@ -9,7 +10,7 @@ returns-in_default-clause-err c =
     let steps = c.args.steps.now in
     let i = c.loop-step.step-index in
     let so_far = c.loop-step.invariant.so_far in
-    subst (StopsAt net c.args.from steps) (sym c.loop-step.invariant.number) (
+    subst (StepsStopAt net c.args.from steps) (sym c.loop-step.invariant.number) (
       omega (arith, c.loop-step-test.true),
       (c.loop-step.at, so_far.joined),
       stops_here net steps i c.args.from c.loop-step.at c.loop-step.strict (omega (arith, c.loop-step-test.true)) so_far

@@ -1,10 +1,10 @@
 use Rattle.std.proofs.Common.{◌<◌, List, length, get_or, sym, subst, arith}
 use Rattle.std.proofs.lemmas.List.Elements.{All-get_or}
 use Rattle.net_core.specs.Nets.{points, upper}
-use Rattle.walks.specs.Dates.{AreDates, AreDescending, IsDate}
+use Rattle.walks.specs.Dates.{AreDates, AreDescending, IsDateOfPoint}
 use Rattle.walks.specs.declared.dates.Date.{Date}
 use Rattle.walks.proofs.DateLaws.{no_date}
-use Rattle.net_orders.specs.Dates.{Extends, FollowsAll, IsNextUpper, PutsLastBefore}
+use Rattle.net_orders.specs.Dates.{ExtendsOrders, FollowsAll, IsNextUpper, PutsLastBefore}
 use Rattle.net_orders.proofs.CalendarOrders.{calendar_said, greater_said, last_kept, last_said, said_more}
 use Rattle.net_orders.proofs.calendar.calendar_orders.Goals as goal
 use Rattle.net_orders.proofs.calendar.calendar_orders.Goals.{After-deref-upper-items, else-is_fixed, then-is_fixed}
@@ -26,7 +26,7 @@ push_orders-requires-clause-next c =
     let all_up = up (goal.at.push_orders-requires-clause-next c).After-deref-upper-items in
     let lt : k < length uppers = omega (arith, c.loop-upper-test.true) in
     subst (λ (lowers : List Date). IsNextUpper net lowers orders (get_or uppers k no_date)) (sym c.deref.ensures.value) record {
-      point = (All-get_or (IsDate (upper net) (points net)) uppers k no_date lt all_up.right).0;
+      point = (All-get_or (IsDateOfPoint (upper net) (points net)) uppers k no_date lt all_up.right).0;
       dates = c.in_ok-lowers.ensures.dates;
       sorted = c.in_ok-lowers.ensures.sorted;
       in_range = c.loop-upper.invariant.in_range;
@@ -46,7 +46,7 @@ loop-upper-preserved c =
     let said = c.loop-upper.invariant.said in
     let all_up = up (goal.at.loop-upper-preserved c).After-deref-upper-items in
     let lt : k < length uppers = omega (arith, c.loop-upper-test.true) in
-    let more = subst (λ (all : List Date). Extends (points net) (FollowsAll all (get_or uppers k no_date)) orders next) c.deref.ensures.value c.in_ok-push_orders.ensures in
+    let more = subst (λ (all : List Date). ExtendsOrders (points net) (FollowsAll all (get_or uppers k no_date)) orders next) c.deref.ensures.value c.in_ok-push_orders.ensures in
     record {
       in_range = more.in_range;
       said = said_more net uppers lowers all_up low orders k said next more;

@@ -3,10 +3,10 @@ use Rattle.std.specs.List.{Contains}
 use Rattle.std.proofs.lemmas.Int.{ints, to_z-of_z}
 use Rattle.net_core.specs.Nets.{points}
 use Rattle.net_core.specs.Relations.{Timeline}
-use Rattle.walks.specs.Dates.{AreFrom}
+use Rattle.walks.specs.Dates.{AreDatesFrom}
 use Rattle.walks.specs.declared.dates.Date.{Date}
 use Rattle.walks.proofs.DateLaws.{no_date}
-use Rattle.net_orders.specs.Dates.{Extends, FollowsDate, FollowsAll}
+use Rattle.net_orders.specs.Dates.{ExtendsOrders, FollowsDate, FollowsAll}
 use Rattle.net_orders.proofs.CalendarOrders.{all_later, extends_more, extends_same, later_within, up_to_fixed}
 use Rattle.net_orders.proofs.Steps.{Below}
 use Rattle.net_orders.proofs.calendar.push_orders_from.Goals as goal
@@ -17,8 +17,8 @@ abbrev each : Date → List Date → ℕ → Timeline → Type 0
 each upper later k t = FollowsDate upper (get_or later k no_date) t
 
 -- the dates are those of the list from the number on
-from_upper : (lowers later : List Date) (number : ℤ) → FitsSigned w64 number → AreFrom (to_z w64 (of_z w64 number)) lowers later → AreFrom number lowers later
-from_upper lowers later number fits are = subst (λ (x : ℤ). AreFrom x lowers later) (to_z-of_z w64 number fits) are
+from_upper : (lowers later : List Date) (number : ℤ) → FitsSigned w64 number → AreDatesFrom (to_z w64 (of_z w64 number)) lowers later → AreDatesFrom number lowers later
+from_upper lowers later number fits are = subst (λ (x : ℤ). AreDatesFrom x lowers later) (to_z-of_z w64 number fits) are
 
 -- the date of this turn is one of the list, and of a point of the net
 listed : (c : After-push_order) → let date = get_or c.dates_from-later.result.now c.loop-lower.lower-index no_date in Contains c.args.lowers.now date × (date.point < points c.args.net.now)
@@ -28,7 +28,7 @@ listed c =
 
 -- the orders with that of this date
 so_far : (c : In_ok-push_order) → (get_or c.dates_from-later.result.now c.loop-lower.lower-index no_date).point < points c.args.net.now
-    → Extends (points c.args.net.now) (Below (each c.args.upper c.dates_from-later.result.now) (c.loop-lower.lower-index + 1)) c.args.orders.now.items c.push_order.new.orders.items
+    → ExtendsOrders (points c.args.net.now) (Below (each c.args.upper c.dates_from-later.result.now) (c.loop-lower.lower-index + 1)) c.args.orders.now.items c.push_order.new.orders.items
 so_far c within =
     extends_more (points c.args.net.now) (each c.args.upper c.dates_from-later.result.now) c.loop-lower.lower-index c.args.orders.now.items c.loop-lower.orders.items c.push_order.new.orders.items
     c.loop-lower.invariant (c.in_ok-push_order.ensures (points c.args.net.now) c.loop-lower.invariant.in_range c.requires.point within)
@@ -60,4 +60,4 @@ returns c =
     let end : c.loop-lower.lower-index ≡ length later = omega arith in
     extends_same (points c.args.net.now) (Below (each c.args.upper later) (length later)) (FollowsAll c.args.lowers.now c.args.upper) c.args.orders.now.items c.loop-lower.orders.items
     (λ t all. all_later c.args.upper c.args.lowers.now later t (from_upper c.args.lowers.now later c.args.upper.number (search rules) c.dates_from-later.ensures.dates))
-    (subst (λ (n : ℕ). Extends (points c.args.net.now) (Below (each c.args.upper later) n) c.args.orders.now.items c.loop-lower.orders.items) end c.loop-lower.invariant)
+    (subst (λ (n : ℕ). ExtendsOrders (points c.args.net.now) (Below (each c.args.upper later) n) c.args.orders.now.items c.loop-lower.orders.items) end c.loop-lower.invariant)

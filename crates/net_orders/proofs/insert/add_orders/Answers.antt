@@ -4,7 +4,7 @@ use Rattle.std.proofs.lemmas.Result.{err_from_is_err_and}
 use Rattle.net_core.specs.Atoms.{IsInRange, Satisfies}
 use Rattle.net_core.specs.Relations.{Timeline}
 use Rattle.order_closure.specs.Tables.{SatisfiesAll}
-use Rattle.net_orders.specs.Steps.{Adds}
+use Rattle.net_orders.specs.Steps.{AddsToTable}
 use Rattle.net_orders.proofs.LinkAtoms.{no_atom}
 use Rattle.net_orders.proofs.Steps.{Below, adds_more, all_below, answer_same, clashes_more}
 use Rattle.net_orders.proofs.insert.add_orders.Goals as goal
@@ -37,4 +37,4 @@ returns c =
     let each = λ (k : ℕ) (t : Timeline). Satisfies t (get_or orders k no_atom) in
     let end : c.loop-order.order-index ≡ length orders = omega arith in
     answer_same (Below each (length orders)) (SatisfiesAll orders) (all_below (λ atom t. Satisfies t atom) orders no_atom)
-    c.args.table.now c.loop-order.table (Ok tt) (subst (λ (n : ℕ). Adds (Below each n) c.args.table.now c.loop-order.table) end c.loop-order.invariant)
+    c.args.table.now c.loop-order.table (Ok tt) (subst (λ (n : ℕ). AddsToTable (Below each n) c.args.table.now c.loop-order.table) end c.loop-order.invariant)

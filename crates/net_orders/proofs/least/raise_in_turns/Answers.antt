@@ -1,12 +1,12 @@
 use Rattle.std.proofs.Common.{ℕ, subst, sym}
 use Rattle.order_closure.specs.Tables.{AreInRange, SatisfiesAll}
-use Rattle.net_orders.specs.Raising.{Rises}
+use Rattle.net_orders.specs.Raising.{RanksRise}
 use Rattle.net_orders.proofs.Rising.{rises_then}
 use Rattle.net_orders.proofs.least.raise_in_turns.Goals as goal
 use Rattle.net_orders.proofs.least.raise_in_turns.Goals.{After-raise_in_sequence}
 
 -- ranks rose in this turn too
-so_far : (c : After-raise_in_sequence) → Rises (SatisfiesAll c.args.orders.now) c.args.ranks.now c.raise_in_sequence.new.ranks
+so_far : (c : After-raise_in_sequence) → RanksRise (SatisfiesAll c.args.orders.now) c.args.ranks.now c.raise_in_sequence.new.ranks
 so_far c =
     let all = SatisfiesAll c.args.orders.now in
     rises_then all all all c.args.ranks.now c.turns.ranks c.raise_in_sequence.new.ranks (λ t holds. holds) (λ t holds. holds) c.turns.invariant c.raise_in_sequence.ensures

@@ -6,7 +6,7 @@ use Rattle.net_core.specs.Relations.{Timeline}
 use Rattle.net_core.specs.declared.atom.Atom.{Atom}
 use Rattle.net_core.proofs.StepLaws.{one_of_all}
 use Rattle.order_closure.specs.Tables.{SatisfiesAll}
-use Rattle.net_orders.specs.Steps.{Adds}
+use Rattle.net_orders.specs.Steps.{AddsToTable}
 use Rattle.net_orders.proofs.LinkAtoms.{no_atom}
 use Rattle.net_orders.proofs.Steps.{Below, adds_more, all_below, answer_same, atom_same, clashes_more}
 use Rattle.net_orders.proofs.links.add_atoms.Goals as goal
@@ -54,4 +54,4 @@ returns c =
     let end : c.loop-number.number ≡ length atoms = omega arith in
     answer_same (Below (Atoms atoms) (length atoms)) (SatisfiesAll atoms) (all_below (λ atom t. Satisfies t atom) atoms no_atom)
     c.args.table.now c.loop-number.table (Ok tt)
-    (subst (λ (n : ℕ). Adds (Below (Atoms atoms) n) c.args.table.now c.loop-number.table) end c.loop-number.invariant.so_far)
+    (subst (λ (n : ℕ). AddsToTable (Below (Atoms atoms) n) c.args.table.now c.loop-number.table) end c.loop-number.invariant.so_far)

@@ -6,7 +6,7 @@ use Rattle.net_core.specs.Relations.{Timeline}
 use Rattle.order_closure.specs.Counting.{before_count}
 use Rattle.order_closure.specs.Tables.{AreInRange, SatisfiesAll, cell_at}
 use Rattle.order_closure.proofs.Ranking.{counts_kept}
-use Rattle.net_orders.specs.Steps.{Adds}
+use Rattle.net_orders.specs.Steps.{AddsToTable}
 use Rattle.net_orders.proofs.LinkAtoms.{link_said}
 use Rattle.net_orders.proofs.Steps.{Below, adds_more, answer_same}
 use Rattle.net_orders.proofs.links.add_links.Goals as goal
@@ -50,4 +50,4 @@ loop-link-preserved c =
 pub returns-clause-ok : goal.returns-clause-ok
 returns-clause-ok c =
     let end : c.loop-link.link ≡ length c.args.net.now.links = omega (arith, c.loop-link.invariant.end) in
-    subst (λ (n : ℕ). Adds (Below (λ k t. KeepsLink c.args.net.now t k) n) c.args.table.now c.loop-link.table) end c.loop-link.invariant.so_far
+    subst (λ (n : ℕ). AddsToTable (Below (λ k t. KeepsLink c.args.net.now t k) n) c.args.table.now c.loop-link.table) end c.loop-link.invariant.so_far

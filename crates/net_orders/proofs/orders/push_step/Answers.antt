@@ -13,8 +13,8 @@ returns-then-link-links c =
     let net = c.args.net.now in
     let step = c.args.step.now in
     let link = c.in-Some.link in
-    on_ok_weaker c.push_link.result (appends_same (points net) (λ but t. link ≢ but → KeepsLink net t link) (λ but t. HoldsBut net but step t) c.args.orders.now c.push_link.new.orders
-    (λ but t. over_link net but link step c.in-Some.ensures (omega arith) t)) c.push_link.ensures
+    on_ok_weaker c.push_link.result (appends_same (points net) (λ omitted t. link ≢ omitted → KeepsLink net t link) (λ omitted t. HoldsBut net omitted step t) c.args.orders.now c.push_link.new.orders
+    (λ omitted t. over_link net omitted link step c.in-Some.ensures (omega arith) t)) c.push_link.ensures
 
 pub returns-in-Some-step_atom : goal.returns-in-Some-step_atom
 returns-in-Some-step_atom c =
@@ -23,6 +23,6 @@ returns-in-Some-step_atom c =
     let atom = c.in-Some-step_atom.atom in
     let order : Order = record { atom = atom; link = None } in
     on_ok_weaker c.push.result (λ (is : c.push.new.self ≡ c.args.orders.now ++ order ∷ []).
-    appends_same (points net) (λ but t. IsTrueBut but order t) (λ but t. HoldsBut net but step t) c.args.orders.now c.push.new.self
-    (λ but t. let said = over_order net but step atom c.in_default.ensures c.in-Some-step_atom.ensures.exact t in (λ holds. said.0 (holds refl), λ holds is_other. said.1 holds))
+    appends_same (points net) (λ omitted t. IsTrueBut omitted order t) (λ omitted t. HoldsBut net omitted step t) c.args.orders.now c.push.new.self
+    (λ omitted t. let said = over_order net omitted step atom c.in_default.ensures c.in-Some-step_atom.ensures.exact t in (λ holds. said.0 (holds refl), λ holds is_other. said.1 holds))
     (appends_one (points net) order c.args.orders.now c.push.new.self c.in-Some-step_atom.ensures.in_range is)) c.push.ensures.ok

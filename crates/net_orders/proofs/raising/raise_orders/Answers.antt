@@ -20,10 +20,10 @@ raise_order-requires c =
 
 pub loop-order-preserved : goal.loop-order-preserved
 loop-order-preserved c =
-    rises_more (λ k t. IsTrueBut c.args.but (get_or c.args.orders.now k no_order) t) c.loop-order.order-index c.args.ranks.now c.loop-order.ranks c.raise_order.new.ranks
+    rises_more (λ k t. IsTrueBut c.args.omitted (get_or c.args.orders.now k no_order) t) c.loop-order.order-index c.args.ranks.now c.loop-order.ranks c.raise_order.new.ranks
     c.loop-order.invariant c.raise_order.ensures
 
 pub returns : goal.returns
 returns c =
-    rises_all (λ k t. IsTrueBut c.args.but (get_or c.args.orders.now k no_order) t) (AllAreTrueBut c.args.but c.args.orders.now) c.loop-order.order-index (length c.args.orders.now)
-    c.args.ranks.now c.loop-order.ranks (omega arith) (all_below (IsTrueBut c.args.but) c.args.orders.now no_order) c.loop-order.invariant
+    rises_all (λ k t. IsTrueBut c.args.omitted (get_or c.args.orders.now k no_order) t) (AllAreTrueBut c.args.omitted c.args.orders.now) c.loop-order.order-index (length c.args.orders.now)
+    c.args.ranks.now c.loop-order.ranks (omega arith) (all_below (IsTrueBut c.args.omitted) c.args.orders.now no_order) c.loop-order.invariant

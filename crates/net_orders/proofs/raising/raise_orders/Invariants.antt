@@ -7,4 +7,4 @@ use Rattle.net_orders.proofs.raising.raise_orders.Given as goal
 
 -- ranks rose by the orders so far
 abbrev pub invariant-loop-order : goal.invariant-loop-order
-invariant-loop-order l = RisesUntil (Below (λ k t. IsTrueBut l.but (get_or l.orders k no_order) t) l.order-index) l.fn.ranks l.ranks
+invariant-loop-order l = RisesUntil (Below (λ k t. IsTrueBut l.omitted (get_or l.orders k no_order) t) l.order-index) l.fn.ranks l.ranks

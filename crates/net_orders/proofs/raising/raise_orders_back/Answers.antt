@@ -31,18 +31,18 @@ loop-rest-preserved c =
     let size = length rest in
     let some = c.in-len1-up.len_at_least in
     let less = length-take-le (size - 1) rest (omega arith) in
-    let Each = λ (k : ℕ) (t : Timeline). IsTrueBut c.args.but (get_or orders k no_order) t in
+    let Each = λ (k : ℕ) (t : Timeline). IsTrueBut c.args.omitted (get_or orders k no_order) t in
     record {
       within = omega (arith, c.loop-rest.invariant.within);
       left = left_less rest orders no_order c.loop-rest.invariant.left;
       so_far = rises_more_back Each (length orders) size (length (take (size - 1) rest)) c.args.ranks.now c.loop-rest.ranks c.raise_order.new.ranks
           (omega arith) c.loop-rest.invariant.within c.loop-rest.invariant.so_far
           (subst (λ (k : ℕ). RisesUntil (Each k) c.loop-rest.ranks c.raise_order.new.ranks) (sym less)
-          (subst (λ (order : Order). RisesUntil (IsTrueBut c.args.but order) c.loop-rest.ranks c.raise_order.new.ranks) (c.loop-rest.invariant.left (size - 1) (omega arith)) c.raise_order.ensures));
+          (subst (λ (order : Order). RisesUntil (IsTrueBut c.args.omitted order) c.loop-rest.ranks c.raise_order.new.ranks) (c.loop-rest.invariant.left (size - 1) (omega arith)) c.raise_order.ensures));
     }
 
 pub returns : goal.returns
 returns c =
     let orders = c.args.orders.now in
-    rises_all_back (λ k t. IsTrueBut c.args.but (get_or orders k no_order) t) (AllAreTrueBut c.args.but orders) (length c.loop-rest.rest.now) (length orders)
-    c.args.ranks.now c.loop-rest.ranks (omega (arith, c.in_default.len_below)) (all_below (IsTrueBut c.args.but) orders no_order) c.loop-rest.invariant.so_far
+    rises_all_back (λ k t. IsTrueBut c.args.omitted (get_or orders k no_order) t) (AllAreTrueBut c.args.omitted orders) (length c.loop-rest.rest.now) (length orders)
+    c.args.ranks.now c.loop-rest.ranks (omega (arith, c.in_default.len_below)) (all_below (IsTrueBut c.args.omitted) orders no_order) c.loop-rest.invariant.so_far

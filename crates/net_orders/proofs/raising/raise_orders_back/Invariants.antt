@@ -10,7 +10,7 @@ abbrev pub invariant-loop-rest : goal.invariant-loop-rest
 invariant-loop-rest l = record {
   within : length l.rest ≤ length l.orders;
   left : (k : ℕ) → k < length l.rest → get_or l.rest k no_order ≡ get_or l.orders k no_order;
-  so_far : RisesUntil (From (λ k t. IsTrueBut l.but (get_or l.orders k no_order) t) (length l.orders) (length l.rest)) l.fn.ranks l.ranks;
+  so_far : RisesUntil (From (λ k t. IsTrueBut l.omitted (get_or l.orders k no_order) t) (length l.orders) (length l.rest)) l.fn.ranks l.ranks;
 }
 
 -- one order fewer is left

@@ -1,12 +1,12 @@
 use Rattle.std.proofs.Common.{◌<◌, length}
 use Rattle.std.specs.List.{All}
-use Rattle.net_orders.specs.Sequence.{IsNumber}
+use Rattle.net_orders.specs.Sequence.{IsOrderNumber}
 use Rattle.net_orders.proofs.Measures.{numbers_left}
 use Rattle.net_orders.proofs.sequence.push_leaving.Given as goal
 
 abbrev pub invariant-loop-next : goal.invariant-loop-next
 invariant-loop-next l = record {
-  next : IsNumber (length l.leaving.before.items) l.next;
+  next : IsOrderNumber (length l.leaving.before.items) l.next;
   sequence : All (λ k. k < length l.leaving.before.items) l.sequence.items;
 }
 

@@ -10,7 +10,7 @@ pub returns : goal.returns
 returns c =
     let orders = c.args.orders.now in
     let fixed = c.args.fixed.now in
-    let but = c.args.but in
+    let omitted = c.args.omitted in
     let place = c.args.place in
     let start = c.args.ranks.now in
     let end = c.raise_all.new.ranks in
@@ -20,16 +20,16 @@ returns c =
       | then-forward w ↦
           let mid = w.raise_orders.new.ranks in
           let next = w.raise_orders-then-forward.new.ranks in
-          rose but orders (drop place orders) (take place orders) fixed start mid next end
-          (λ t. let cut = cut_orders place but orders t in (λ all. let both = cut.0 all in (both.1, both.0), λ both. cut.1 (both.1, both.0)))
-          (subst (λ (xs : List Order). RisesUntil (AllAreTrueBut but xs) start mid) last w.raise_orders.ensures)
-          (subst (λ (xs : List Order). RisesUntil (AllAreTrueBut but xs) mid next) first w.raise_orders-then-forward.ensures)
+          rose omitted orders (drop place orders) (take place orders) fixed start mid next end
+          (λ t. let cut = cut_orders place omitted orders t in (λ all. let both = cut.0 all in (both.1, both.0), λ both. cut.1 (both.1, both.0)))
+          (subst (λ (xs : List Order). RisesUntil (AllAreTrueBut omitted xs) start mid) last w.raise_orders.ensures)
+          (subst (λ (xs : List Order). RisesUntil (AllAreTrueBut omitted xs) mid next) first w.raise_orders-then-forward.ensures)
           (rw (← w.ranks-is) c.raise_all.ensures)
       | else-forward w ↦
           let mid = w.raise_orders_back.new.ranks in
           let next = w.raise_orders_back-else-forward.new.ranks in
-          rose but orders (take place orders) (drop place orders) fixed start mid next end (cut_orders place but orders)
-          (subst (λ (xs : List Order). RisesUntil (AllAreTrueBut but xs) start mid) first w.raise_orders_back.ensures)
-          (subst (λ (xs : List Order). RisesUntil (AllAreTrueBut but xs) mid next) last w.raise_orders_back-else-forward.ensures)
+          rose omitted orders (take place orders) (drop place orders) fixed start mid next end (cut_orders place omitted orders)
+          (subst (λ (xs : List Order). RisesUntil (AllAreTrueBut omitted xs) start mid) first w.raise_orders_back.ensures)
+          (subst (λ (xs : List Order). RisesUntil (AllAreTrueBut omitted xs) mid next) last w.raise_orders_back-else-forward.ensures)
           (rw (← w.ranks-is) c.raise_all.ensures)
     ]

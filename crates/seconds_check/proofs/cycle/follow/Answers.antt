@@ -1,7 +1,8 @@
 use Rattle.std.proofs.Common.{sym, subst, arith}
 use Rattle.std.proofs.lemmas.Int.{ints}
-use Rattle.seconds_check.specs.Following.{StopsAt}
-use Rattle.seconds_check.proofs.Following.{followed_more, none_given, stops_here}
+use Rattle.seconds_check.specs.Following.{LinesStopAt}
+use Rattle.net_core.proofs.FirstLaws.{none_given}
+use Rattle.seconds_check.proofs.Following.{followed_more, stops_here}
 use Rattle.seconds_check.proofs.cycle.follow.Goals as goal
 
 pub returns-in_default-clause-err : goal.returns-in_default-clause-err
@@ -10,7 +11,7 @@ returns-in_default-clause-err c =
     let lines = c.args.lines.now in
     let i = c.loop-line.line-index in
     let so_far = c.loop-line.invariant.so_far in
-    subst (StopsAt timed c.args.from lines) (sym c.loop-line.invariant.number) (
+    subst (LinesStopAt timed c.args.from lines) (sym c.loop-line.invariant.number) (
       omega (arith, c.loop-line-test.true),
       (c.loop-line.at, so_far.joined),
       stops_here timed lines i c.args.from c.loop-line.at _ (omega (arith, c.loop-line-test.true)) so_far

@@ -1,6 +1,6 @@
 use Rattle.std.proofs.Common.{◌≡◌, ◌∙◌, ℕ, ◌<◌, ◌++◌, List, [], ◌∷◌, Option, None, Some, ap, drop, get_or, length, replicate, set, subst, sym, arith, rules}
 use Rattle.std.proofs.lemmas.List.{get_or_default}
-use Rattle.seconds_search.specs.Relaxation.{IsClosed, predecessor}
+use Rattle.seconds_search.specs.Relaxation.{IsClosedTrail, predecessor}
 use Rattle.seconds_search.proofs.Trails.{IsWalked, free_less, walk_begins, walk_closes, walk_ends, walk_goes_on}
 use Rattle.seconds_search.proofs.cycle.closed_trail.Goals as goal
 
@@ -38,7 +38,7 @@ returns-in-Some-index c =
     let first = c.in-Some-index.first in
     let met = place_is places point c.index.result.now (Some first) (omega (arith, walked.inside, walked.size)) c.index.ensures c.in-Some-index.is in
     let rest : c.in_ok-rest.rest.items ≡ drop first trail = c.in_ok-rest.ensures ∙ ap (drop first) c.deref.ensures.value in
-    (point, subst (λ (r : List ℕ). IsClosed edges d r point) (sym rest) (walk_closes edges d c.requires.relaxed c.args.from trail places point walked first met))
+    (point, subst (λ (r : List ℕ). IsClosedTrail edges d r point) (sym rest) (walk_closes edges d c.requires.relaxed c.args.from trail places point walked first met))
 
 pub from_of-point-requires : goal.from_of-point-requires
 from_of-point-requires c = (c.requires.relaxed.lowered c.loop-number.point c.in-Some.number (sym c.predecessor.ensures ∙ c.in-Some.is)).edge

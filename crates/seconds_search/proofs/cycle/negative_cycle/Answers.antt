@@ -1,8 +1,8 @@
 use Rattle.std.proofs.Common.{◌≡◌, ◌∙◌, ℕ, ◌<◌, ap, length, map, reverse, subst, sym}
 use Rattle.std.specs.List.{All}
 use Rattle.seconds_core.specs.Cycles.{IsNegative}
-use Rattle.seconds_search.specs.Edges.{line_at}
-use Rattle.seconds_search.specs.Relaxation.{IsClosed}
+use Rattle.seconds_search.specs.Edges.{edge_line}
+use Rattle.seconds_search.specs.Relaxation.{IsClosedTrail}
 use Rattle.seconds_search.proofs.Trails.{closed_is_negative, trail_inside}
 use Rattle.seconds_search.proofs.cycle.negative_cycle.Goals as goal
 
@@ -11,7 +11,7 @@ lines_of-requires c =
     let edges = c.args.edges.now in
     let d = c.args.distances.now in
     let trail = c.in-Some.trail.items in
-    let found : (p : ℕ) × IsClosed edges d trail p = rw c.in-Some.is at c.in_ok-trail.ensures in
+    let found : (p : ℕ) × IsClosedTrail edges d trail p = rw c.in-Some.is at c.in_ok-trail.ensures in
     subst (All (λ (e : ℕ). e < length edges)) (sym c.deref.ensures.value) (trail_inside edges d c.requires.relaxed trail found.0 found.0 found.1.back)
 
 pub returns-clause-negative : goal.returns-clause-negative
@@ -19,6 +19,6 @@ returns-clause-negative c = λ timed named.
     let edges = c.args.edges.now in
     let d = c.args.distances.now in
     let trail = c.in-Some.trail.items in
-    let found : (p : ℕ) × IsClosed edges d trail p = rw c.in-Some.is at c.in_ok-trail.ensures in
-    let lines : c.from_vec.result ≡ reverse (map (line_at edges) trail) = c.from_vec.ensures ∙ c.reverse.ensures.items ∙ ap reverse (c.in_ok-lines.ensures ∙ ap (map (line_at edges)) c.deref.ensures.value) in
+    let found : (p : ℕ) × IsClosedTrail edges d trail p = rw c.in-Some.is at c.in_ok-trail.ensures in
+    let lines : c.from_vec.result ≡ reverse (map (edge_line edges) trail) = c.from_vec.ensures ∙ c.reverse.ensures.items ∙ ap reverse (c.in_ok-lines.ensures ∙ ap (map (edge_line edges)) c.deref.ensures.value) in
     subst (IsNegative timed) (sym lines) (closed_is_negative timed edges d c.requires.relaxed named trail found.0 found.1)

@@ -1,5 +1,5 @@
 use Rattle.std.proofs.Common.{◌*◌, ◌+◌, arith}
-use Rattle.seconds_search.specs.Edges.{IsOfLink}
+use Rattle.seconds_search.specs.Edges.{IsLineOfLink}
 use Rattle.seconds_search.proofs.EdgeLaws.{all_covered, grows_on}
 use Rattle.seconds_search.proofs.edges.push_links.Goals as goal
 
@@ -11,5 +11,5 @@ loop-link-preserved c =
     record {
       end = so_far.end;
       grows = grows_on _ _ _ _ (4 * k) 4 (4 * (k + 1)) (omega arith) so_far.grows more.grows;
-      covers = all_covered IsOfLink _ _ _ 4 k more.grows so_far.covers more.covers;
+      covers = all_covered IsLineOfLink _ _ _ 4 k more.grows so_far.covers more.covers;
     }

@@ -1,6 +1,6 @@
 use Rattle.std.proofs.Common.{◌∙◌, sym, ap, refl}
 use Rattle.std.proofs.lemmas.List.Elements.{Contains-get_or}
-use Rattle.tml_refs.specs.declared.asked.Asked.{Asked}
+use Rattle.tml_refs.specs.declared.asked.AskedReference.{AskedReference}
 use Rattle.tml_refs.specs.Asking.{IsUnlistedAt, asked_reference}
 use Rattle.tml_refs.specs.Firsts.{bound}
 use Rattle.tml_refs.specs.NameIndex.{is_unlisted}
@@ -14,8 +14,8 @@ loop-reference-preserved c =
     let names = c.args.names.now in
     let asked = c.args.asked.now in
     let loop = c.loop-reference in
-    let place = λ (a : Asked). a.place in
-    let fails = λ (a : Asked). is_unlisted names (asked_reference a) in
+    let place = λ (a : AskedReference). a.place in
+    let fails = λ (a : AskedReference). is_unlisted names (asked_reference a) in
     elim c.if-lacks.branch [
       | then-lacks w ↦
           let new = ap bound w.first-is ∙ w.earlier-first.ensures in

@@ -1,6 +1,6 @@
 use Rattle.std.proofs.Common.{List, subst}
 use Rattle.net_core.specs.declared.atom.Atom.{Atom}
-use Rattle.tml_score.specs.Graph.{Adds, IsFixed}
+use Rattle.tml_score.specs.Graph.{AddsOrders, IsFixedOrder}
 use Rattle.tml_score.proofs.GraphLaws.{all_added}
 use Rattle.tml_score.proofs.graph.orders_of.Goals as goal
 
@@ -11,7 +11,7 @@ returns c =
     let old = c.new-orders.result.items in
     let mid = c.push_fixed.new.orders.items in
     let new = c.push_links.new.orders.items in
-    let first : Adds (IsFixed fixed) old mid = subst (λ (xs : List Atom). Adds (IsFixed xs) old mid) c.deref.ensures.value c.in_ok-push_fixed.ensures in
+    let first : AddsOrders (IsFixedOrder fixed) old mid = subst (λ (xs : List Atom). AddsOrders (IsFixedOrder xs) old mid) c.deref.ensures.value c.in_ok-push_fixed.ensures in
     record {
       fixed = fixed;
       are_fixed = c.in_ok-fixed.ensures;

@@ -1,5 +1,5 @@
 use Rattle.std.proofs.Common.{◌≡◌, ℕ, ◌+◌, false, None, get_or, length, subst, arith}
-use Rattle.tml_score.specs.Graph.{Adds, IsFixed}
+use Rattle.tml_score.specs.Graph.{AddsOrders, IsFixedOrder}
 use Rattle.tml_score.proofs.GraphLaws.{IsAt, OfFirst, adds_none, adds_same, adds_then, all_at, of_first_more}
 use Rattle.tml_score.proofs.graph.push_fixed.Goals as goal
 
@@ -19,5 +19,5 @@ pub returns : goal.returns
 returns c =
     let fixed = c.args.fixed.now in
     let end : c.loop-atom.atom-index ≡ length fixed = omega arith in
-    let so_far = subst (λ (n : ℕ). Adds (OfFirst (IsAt fixed None) n) c.args.orders.now.items c.loop-atom.orders.items) end c.loop-atom.invariant in
-    adds_same (OfFirst (IsAt fixed None) (length fixed)) (IsFixed fixed) c.args.orders.now.items c.loop-atom.orders.items (all_at fixed None) so_far
+    let so_far = subst (λ (n : ℕ). AddsOrders (OfFirst (IsAt fixed None) n) c.args.orders.now.items c.loop-atom.orders.items) end c.loop-atom.invariant in
+    adds_same (OfFirst (IsAt fixed None) (length fixed)) (IsFixedOrder fixed) c.args.orders.now.items c.loop-atom.orders.items (all_at fixed None) so_far

@@ -3,7 +3,7 @@ use Rattle.std.specs.List.{Contains}
 use Rattle.std.proofs.lemmas.Option.{get_or_from_slice_get}
 use Rattle.net_core.specs.Atoms.{atoms_in}
 use Rattle.net_core.specs.declared.atom.Atom.{Atom}
-use Rattle.tml_score.specs.Graph.{Adds, IsOfLink}
+use Rattle.tml_score.specs.Graph.{AddsOrders, IsOrderOfLink}
 use Rattle.tml_score.proofs.GraphLaws.{IsAt, OfFirst, adds_none, adds_same, adds_then, all_at, of_first_more}
 use Rattle.tml_score.proofs.graph.push_link.Goals as goal
 
@@ -36,6 +36,6 @@ returns c =
     let link = c.args.link in
     let atoms = atoms_in c.atoms_of_link-atoms.result in
     let end : c.loop-number.number ≡ length atoms = omega arith in
-    let so_far = subst (λ (n : ℕ). Adds (OfFirst (IsAt atoms (Some link)) n) c.args.orders.now.items c.loop-number.orders.items) end c.loop-number.invariant.so_far in
-    adds_same (OfFirst (IsAt atoms (Some link)) (length atoms)) (IsOfLink net link) c.args.orders.now.items c.loop-number.orders.items (λ o.
+    let so_far = subst (λ (n : ℕ). AddsOrders (OfFirst (IsAt atoms (Some link)) n) c.args.orders.now.items c.loop-number.orders.items) end c.loop-number.invariant.so_far in
+    adds_same (OfFirst (IsAt atoms (Some link)) (length atoms)) (IsOrderOfLink net link) c.args.orders.now.items c.loop-number.orders.items (λ o.
     subst (λ (xs : List Atom). OfFirst (IsAt atoms (Some link)) (length atoms) o ↔ ((o.link ≡ Some link) × Contains xs o.atom)) c.atoms_of_link-atoms.ensures.atoms (all_at atoms (Some link) o)) so_far

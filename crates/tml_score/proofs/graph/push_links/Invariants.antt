@@ -1,5 +1,5 @@
 use Rattle.std.proofs.Common.{◌≡◌, length}
-use Rattle.tml_score.specs.Graph.{Adds, IsOfLink}
+use Rattle.tml_score.specs.Graph.{AddsOrders, IsOrderOfLink}
 use Rattle.tml_score.proofs.GraphLaws.{OfFirst}
 use Rattle.tml_score.proofs.graph.push_links.Given as goal
 
@@ -7,5 +7,5 @@ use Rattle.tml_score.proofs.graph.push_links.Given as goal
 abbrev pub invariant-loop-link : goal.invariant-loop-link
 invariant-loop-link l = record {
   end : l.link-end ≡ length l.net.links;
-  so_far : Adds (OfFirst (IsOfLink l.net) l.link) l.fn.orders.items l.orders.items;
+  so_far : AddsOrders (OfFirst (IsOrderOfLink l.net) l.link) l.fn.orders.items l.orders.items;
 }

@@ -7,7 +7,7 @@ use Rattle.net_orders.proofs.LinkAtoms.{link_said}
 use Rattle.net_core.specs.Atoms.{Satisfies, atoms_in}
 use Rattle.net_core.specs.declared.atom.Atom.{Atom}
 use Rattle.tml_score.specs.Search.{Decides, basis_of}
-use Rattle.tml_score.specs.declared.search.Asked.{Asked}
+use Rattle.tml_score.specs.declared.search.AskedOrder.{AskedOrder}
 use Rattle.tml_score.proofs.reducing.link_follows.Goals as goal
 
 pub loop-number-init : goal.loop-number-init
@@ -31,7 +31,7 @@ loop-number-preserved c =
     let atoms = atoms_in c.atoms_of_link-atoms.result in
     let i = c.loop-number.number in
     let order = c.nth_order-order.result in
-    let asked : Asked = record { link = c.args.link; order = order } in
+    let asked : AskedOrder = record { link = c.args.link; order = order } in
     let decides : Decides (basis_of c.args.kept.now) asked true = subst (Decides (basis_of c.args.kept.now) asked) c.if-not-branch.false c.in_ok-order_follows.ensures.decides in
     record {
       end = c.loop-number.invariant.end;
@@ -52,7 +52,7 @@ returns-then-not-branch c =
     let link = c.args.link in
     let atoms = atoms_in c.atoms_of_link-atoms.result in
     let order = c.nth_order-order.result in
-    let asked : Asked = record { link = link; order = order } in
+    let asked : AskedOrder = record { link = link; order = order } in
     let decides : Decides (basis_of c.args.kept.now) asked false = subst (Decides (basis_of c.args.kept.now) asked) c.if-not-branch.true c.in_ok-order_follows.ensures.decides in
     let at : get_or atoms c.loop-number.number order ≡ order = get_or_from_slice_get atoms c.loop-number.number order order c.nth_order-order.ensures in
     let among : Contains atoms order = (c.loop-number.number, slice_get_within atoms c.loop-number.number order c.nth_order-order.ensures, at) in

@@ -1,11 +1,12 @@
-use Rattle.std.proofs.Common.{◌≡◌, ◌↔◌, ◌+◌, ◌<◌, ℕ, Bool, true, false, IsTrue, refl, length, get_or, count_by, take, sym, ap, subst, ◌∙◌, arith, rules}
+use Rattle.std.proofs.Common.{◌≡◌, ◌↔◌, ◌+◌, ◌<◌, ℕ, true, false, IsTrue, length, get_or, count_by, take, sym, ap, subst, ◌∙◌, arith, rules}
 use Rattle.std.proofs.lemmas.List.{take_all}
 use Rattle.std.proofs.lemmas.List.Elements.{All-contains, All-get_or}
 use Rattle.std.proofs.lemmas.List.Sums.{count_by_more_no, count_by_more_yes}
+use Rattle.std.proofs.lemmas.Bool.{false_from_ne_true}
 use Rattle.net_core.specs.Nets.{link_at}
 use Rattle.net_core.specs.declared.net.NetLink.{NetLink}
 use Rattle.tml_score.specs.Reduced.{IsReduced}
-use Rattle.tml_score.specs.Scoring.{ArePartners, EntailsBetween, annotation_of, table_of}
+use Rattle.tml_score.specs.Scoring.{ArePartners, EntailsBetween, annotation_of, annotated_table}
 use Rattle.tml_score.proofs.Counted.{both_placed, entails_follows, partners_within, some_test}
 use Rattle.tml_score.proofs.Rising.{few_rising}
 use Rattle.tml_score.proofs.scoring.matched.Goals as goal
@@ -32,7 +33,7 @@ follows_between-requires c =
     record {
       a = subst (λ (l : NetLink). l.a < length partners) (sym link) placed.0;
       b = subst (λ (l : NetLink). l.b < length partners) (sym link) placed.1;
-      partners = partners_within own other c.requires.own.net c.links.ensures.net partners are (table_of c.args.other) c.requires.other;
+      partners = partners_within own other c.requires.own.net c.links.ensures.net partners are (annotated_table c.args.other) c.requires.other;
     }
 
 pub overflow_add-matched : goal.overflow_add-matched
@@ -53,9 +54,9 @@ loop-link-preserved c =
     let lt = All-get_or (λ (j : ℕ). j < length own.net.links) items i 0 c.loop-link-test.true reduced.of_net in
     let partners = c.deref.result.now in
     let are : ArePartners own.contents.intervals other.contents.intervals partners = subst (ArePartners own.contents.intervals other.contents.intervals) (sym c.deref.ensures.value) c.in_ok-partners.ensures.partners in
-    let both = entails_follows own other c.requires.own.net c.links.ensures.net partners are (table_of c.args.other) c.requires.other k lt in
-    let says : IsTrue c.follows_between.result ↔ EntailsBetween (table_of c.args.other) partners (link_at own.net k) =
-    subst (λ (l : NetLink). IsTrue c.follows_between.result ↔ EntailsBetween (table_of c.args.other) partners l) c.link.ensures.link c.follows_between.ensures in
+    let both = entails_follows own other c.requires.own.net c.links.ensures.net partners are (annotated_table c.args.other) c.requires.other k lt in
+    let says : IsTrue c.follows_between.result ↔ EntailsBetween (annotated_table c.args.other) partners (link_at own.net k) =
+    subst (λ (l : NetLink). IsTrue c.follows_between.result ↔ EntailsBetween (annotated_table c.args.other) partners l) c.link.ensures.link c.follows_between.ensures in
     let was = c.loop-link.invariant in
     elim c.if-follows_between.branch [
       | then-follows_between w ↦ record {
@@ -67,14 +68,10 @@ loop-link-preserved c =
       | else-follows_between w ↦ record {
         few = omega (arith, w.matched-is, was.few);
         counted = λ test tells.
-            let fails : test k ≡ false = by_not (test k) (λ passes. let is = says.1 (both.1 ((tells k lt).0 passes)) in absurd (search rules)) in
+            let fails : test k ≡ false = false_from_ne_true (test k) (λ passes. let is = says.1 (both.1 ((tells k lt).0 passes)) in absurd (search rules)) in
             w.matched-is ∙ was.counted test tells ∙ sym (count_by_more_no test items i 0 c.loop-link-test.true fails);
       }
     ]
-  where
-    by_not : (b : Bool) → (b ≡ true → ⊥) → b ≡ false
-    by_not true not = absurd (not refl)
-    by_not false not = refl
 
 pub overflow_cast-result : goal.overflow_cast-result
 overflow_cast-result c =

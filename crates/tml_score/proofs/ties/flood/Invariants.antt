@@ -1,6 +1,6 @@
 use Rattle.std.proofs.Common.{◌≡◌, length}
 use Rattle.net_core.specs.Nets.{points}
-use Rattle.tml_score.specs.Ties.{ArePoints}
+use Rattle.net_orders.specs.Sequence.{ArePoints}
 use Rattle.tml_score.proofs.ties.flood.Given as goal
 
 abbrev pub invariant-flood : goal.invariant-flood

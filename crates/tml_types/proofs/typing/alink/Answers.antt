@@ -1,8 +1,9 @@
 use Rattle.std.proofs.Common.{refl, ap, ◌∙◌, rules}
+use Rattle.std.proofs.lemmas.Bool.{or_from}
 use Rattle.tml_types.specs.Listed.{all_aspect_rels, aspect_rel_text}
 use Rattle.tml_types.specs.Rules.{is_absent}
 use Rattle.tml_types.specs.Values.{is_identifier, is_named}
-use Rattle.tml_types.proofs.GoodRows.{fits, neither}
+use Rattle.tml_types.proofs.GoodRows.{fits}
 use Rattle.tml_types.proofs.typing.alink.Goals as goal
 
 pub returns-clause-ok : goal.returns-clause-ok
@@ -13,8 +14,8 @@ returns-clause-ok c =
     let related = c.in_ok-related-2.ensures.good in
     let rel = c.in_ok-rel.ensures.good in
     let names = c.in_ok-lid.ensures.good in record {
-      none_missing = neither _ _ (ap is_absent text) (neither _ _ (ap is_absent texts.0) (neither _ _ (ap is_absent texts.1) refl));
-      none_bad = neither _ _ (fits is_identifier _ _ text event.1) (neither _ _ (fits is_identifier _ _ texts.0 related.1) (neither _ _ (fits (is_named aspect_rel_text all_aspect_rels) _ _ texts.1 rel.1) (neither _ _ names.0.1 (neither _ _ names.1.1 refl))));
+      none_missing = or_from _ _ (ap is_absent text) (or_from _ _ (ap is_absent texts.0) (or_from _ _ (ap is_absent texts.1) refl));
+      none_bad = or_from _ _ (fits is_identifier _ _ text event.1) (or_from _ _ (fits is_identifier _ _ texts.0 related.1) (or_from _ _ (fits (is_named aspect_rel_text all_aspect_rels) _ _ texts.1 rel.1) (or_from _ _ names.0.1 (or_from _ _ names.1.1 refl))));
       no_conflict = refl;
       place_is = refl;
       small = search rules;

@@ -6,7 +6,7 @@ use Rattle.tml_span.specs.View.{attribute_of}
 use Rattle.tml_tree.specs.View.{node_of}
 use Rattle.tml_tree.specs.Walking.{elements}
 use Rattle.tml_types.specs.Walking.{tag_at}
-use Rattle.tml_types.specs.Rules.{IsSound}
+use Rattle.tml_types.specs.Rules.{BreaksNoTagRule}
 use Rattle.tml_types.proofs.OneTag.{adds_none, adds_one}
 use Rattle.tml_types.proofs.Walks.{adds_more, fault_of_more, next_child, tag_first, when_ok}
 use Rattle.tml_types.proofs.walk.+walk.Goals as goal
@@ -15,7 +15,7 @@ use Rattle.tml_types.proofs.walk.+walk.Goals.{type_tag-in-Some+else-is_err, type
 pub type_tag-returns-in_err-own-clause-err : goal.type_tag-returns-in_err-own-clause-err
 type_tag-returns-in_err-own-clause-err t c =
     let p = err_from_is_err_and c.from_residual.result c.from_residual.ensures.1 in
-    rw (p.1, p.2) (fault_of_more [] _ _ _ _ (tag_first c.args.tag.now _ _ c.as_slice.ensures refl) (All-nil IsSound) c.in_err-own.ensures.err)
+    rw (p.1, p.2) (fault_of_more [] _ _ _ _ (tag_first c.args.tag.now _ _ c.as_slice.ensures refl) (All-nil BreaksNoTagRule) c.in_err-own.ensures.err)
 
 pub type_tag-loop-child-init : goal.type_tag-loop-child-init
 type_tag-loop-child-init t c =

@@ -1,7 +1,7 @@
 use Rattle.std.proofs.Common.{int_lt, sym, subst, rules}
 use Rattle.std.proofs.lemmas.List.{take_rest}
 use Rattle.std.proofs.lemmas.List.Sorted.{IsPartitionPoint-from_clause}
-use Rattle.walks.specs.Dates.{AreAscending, AreFrom, AreOfDistinctPoints}
+use Rattle.walks.specs.Dates.{AreAscending, AreDatesFrom, AreOfDistinctPoints}
 use Rattle.walks.specs.declared.dates.Date.{Date}
 use Rattle.walks.proofs.DateLaws.{ascending_from, below_first, distinct_from, from_number}
 use Rattle.walks.proofs.dates.dates_from.Goals as goal
@@ -11,7 +11,7 @@ returns-clause-dates c =
     let dates = c.args.dates.now in
     let number = c.args.number in
     let first = c.partition_point-first.result in
-    subst (AreFrom number dates) (sym (take_rest dates first)) (from_number dates number first
+    subst (AreDatesFrom number dates) (sym (take_rest dates first)) (from_number dates number first
     (IsPartitionPoint-from_clause (λ (date : Date). int_lt date.number number) dates first c.partition_point-first.ensures.partitioned (below_first dates number c.requires) (λ a r q k. search rules)))
 
 pub returns-clause-sorted : goal.returns-clause-sorted

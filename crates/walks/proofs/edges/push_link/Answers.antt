@@ -4,7 +4,7 @@ use Rattle.net_core.specs.Nets.{link_at}
 use Rattle.net_core.specs.declared.net.NetLink.{NetLink}
 use Rattle.net_core.specs.declared.step.Step.{Step}
 use Rattle.net_core.specs.declared.step.Step.TheVariants.{Link}
-use Rattle.walks.specs.Edges.{Adds, IsOver}
+use Rattle.walks.specs.Edges.{AddsEdges, IsOver}
 use Rattle.walks.proofs.EdgeLaws.{Below, adds_more, adds_none, adds_same, atoms_all}
 use Rattle.walks.proofs.edges.push_link.Goals as goal
 
@@ -27,4 +27,4 @@ returns c =
     let count = atom_count (link_at net c.args.link).rel in
     let end : c.loop-atom.atom ≡ count = omega arith in
     adds_same net (Below (Orders c.args.link) count) (IsOver (λ k. k ≡ c.args.link)) c.args.edges.now.items c.loop-atom.edges.items (atoms_all net c.args.link)
-    (subst (λ (n : ℕ). Adds net (Below (Orders c.args.link) n) c.args.edges.now.items c.loop-atom.edges.items) end c.loop-atom.invariant.so_far)
+    (subst (λ (n : ℕ). AddsEdges net (Below (Orders c.args.link) n) c.args.edges.now.items c.loop-atom.edges.items) end c.loop-atom.invariant.so_far)

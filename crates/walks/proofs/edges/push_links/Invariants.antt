@@ -1,5 +1,5 @@
 use Rattle.std.proofs.Common.{◌≡◌, length}
-use Rattle.walks.specs.Edges.{Adds}
+use Rattle.walks.specs.Edges.{AddsEdges}
 use Rattle.walks.proofs.EdgeLaws.{Below, OverKept}
 use Rattle.walks.proofs.edges.push_links.Given as goal
 
@@ -7,5 +7,5 @@ use Rattle.walks.proofs.edges.push_links.Given as goal
 abbrev pub invariant-loop-link : goal.invariant-loop-link
 invariant-loop-link l = record {
   end : l.link-end ≡ length l.net.links;
-  so_far : Adds l.net (Below (OverKept l.keep) l.link) l.fn.edges.items l.edges.items;
+  so_far : AddsEdges l.net (Below (OverKept l.keep) l.link) l.fn.edges.items l.edges.items;
 }

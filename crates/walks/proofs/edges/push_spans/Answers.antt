@@ -2,7 +2,7 @@ use Rattle.std.proofs.Common.{◌≡◌, ℕ, subst, arith}
 use Rattle.net_core.specs.Nets.{intervals}
 use Rattle.net_core.specs.declared.step.Step.{Step}
 use Rattle.net_core.specs.declared.step.Step.TheVariants.{Span}
-use Rattle.walks.specs.Edges.{Adds, IsSpan}
+use Rattle.walks.specs.Edges.{AddsEdges, IsSpan}
 use Rattle.walks.proofs.EdgeLaws.{Below, adds_more, adds_none, adds_same, spans_all}
 use Rattle.walks.proofs.edges.push_spans.Goals as goal
 
@@ -23,4 +23,4 @@ pub returns : goal.returns
 returns c =
     let end : c.loop-interval.interval ≡ intervals c.args.net.now = omega arith in
     adds_same c.args.net.now (Below Spans (intervals c.args.net.now)) IsSpan c.args.edges.now.items c.loop-interval.edges.items (spans_all c.args.net.now)
-    (subst (λ (n : ℕ). Adds c.args.net.now (Below Spans n) c.args.edges.now.items c.loop-interval.edges.items) end c.loop-interval.invariant.so_far)
+    (subst (λ (n : ℕ). AddsEdges c.args.net.now (Below Spans n) c.args.edges.now.items c.loop-interval.edges.items) end c.loop-interval.invariant.so_far)

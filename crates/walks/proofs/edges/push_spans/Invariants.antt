@@ -1,7 +1,7 @@
 use Rattle.std.proofs.Common.{◌≡◌}
 use Rattle.net_core.specs.Nets.{intervals}
 use Rattle.net_core.specs.declared.step.Step.TheVariants.{Span}
-use Rattle.walks.specs.Edges.{Adds}
+use Rattle.walks.specs.Edges.{AddsEdges}
 use Rattle.walks.proofs.EdgeLaws.{Below}
 use Rattle.walks.proofs.edges.push_spans.Given as goal
 
@@ -9,5 +9,5 @@ use Rattle.walks.proofs.edges.push_spans.Given as goal
 abbrev pub invariant-loop-interval : goal.invariant-loop-interval
 invariant-loop-interval l = record {
   end : l.interval-end ≡ intervals l.net;
-  so_far : Adds l.net (Below (λ i step. step ≡ Span i) l.interval) l.fn.edges.items l.edges.items;
+  so_far : AddsEdges l.net (Below (λ i step. step ≡ Span i) l.interval) l.fn.edges.items l.edges.items;
 }

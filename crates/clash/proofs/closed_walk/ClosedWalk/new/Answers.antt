@@ -4,7 +4,7 @@ use Rattle.std.proofs.lemmas.List.{get_or-replicate, length-replicate, with_item
 use Rattle.net_core.specs.Walks.{GoesOver, IsClosedWalk, Kept}
 use Rattle.net_core.specs.declared.step.Step.{Step}
 use Rattle.net_orders.specs.Orders.{AreStepOrders}
-use Rattle.clash.proofs.Rounds.{goes_from_marks}
+use Rattle.clash.proofs.ClosedWalks.{goes_from_marks}
 use Rattle.clash.proofs.closed_walk.ClosedWalk.new.Goals as goal
 use Rattle.clash.proofs.closed_walk.ClosedWalk.new.Goals.{After-mark_steps}
 
@@ -34,9 +34,9 @@ abbrev AreMarks : After-mark_steps → List Bool → Type 0
 AreMarks c marks =
     (length marks ≡ length c.args.net.now.links) × IsClosedWalk c.args.net.now (Kept marks) c.args.walk × ((k : ℕ) → k < length c.args.net.now.links → Kept marks k ↔ GoesOver c.args.walk k)
 
-pub returns-clause-round : goal.returns-clause-round
-returns-clause-round c =
-    let here = (goal.at.returns-clause-round c).After-mark_steps in
+pub returns-clause-closed : goal.returns-clause-closed
+returns-clause-closed c =
+    let here = (goal.at.returns-clause-closed c).After-mark_steps in
     let marks = here.mark_steps.new.marks in
     let long : length marks ≡ c.in-Ok.over.len = here.mark_steps.ensures.length ∙ here.deref_mut.ensures.len in
     let all : AreMarks here (with_items c.in-Ok.over marks).items =

@@ -5,7 +5,7 @@ use Rattle.net_core.specs.Nets.{points}
 use Rattle.net_core.specs.Ranks.{timeline_of}
 use Rattle.net_core.specs.Walks.{Kept}
 use Rattle.net_orders.specs.Orders.{FitsBut}
-use Rattle.net_orders.specs.Raising.{Rises}
+use Rattle.net_orders.specs.Raising.{RanksRise}
 use Rattle.net_orders.specs.declared.orders.Order.{Order}
 use Rattle.net_orders.proofs.RankSums.{sum_bounded}
 use Rattle.clash.proofs.Spared.{low_from_zeros, spare_from_zeros, zeros_ready}
@@ -18,12 +18,12 @@ zeros c = c.deref_mut.ensures.value ∙ c.in-Ok.ensures.items_if_clones_equal (�
 
 pub settle-requires : goal.settle-requires
 settle-requires c =
-    let ready = zeros_ready c.args.net.now c.args.self.now c.args.fixed.now c.as_slice.result.now c.deref_mut.result.now c.intervals.ensures.net c.requires.round c.requires.fixed c.as_slice.ensures (zeros c) in
+    let ready = zeros_ready c.args.net.now c.args.self.now c.args.fixed.now c.as_slice.result.now c.deref_mut.result.now c.intervals.ensures.net c.requires.closed c.requires.fixed c.as_slice.ensures (zeros c) in
     record { orders = ready.0; fixed = ready.1; few = ready.2; within = ready.3 }
 
--- and rise by the orders of the round
-rises : (c : After-settle) → Rises (FitsBut c.args.self.now.orders c.args.fixed.now c.args.but) c.deref_mut.result.now c.settle.new.ranks
-rises c = subst (λ (orders : List Order). Rises (FitsBut orders c.args.fixed.now c.args.but) c.deref_mut.result.now c.settle.new.ranks) c.as_slice.ensures c.settle.ensures.rises
+-- and rise by the orders of the closed walk
+rises : (c : After-settle) → RanksRise (FitsBut c.args.self.now.orders c.args.fixed.now c.args.omitted) c.deref_mut.result.now c.settle.new.ranks
+rises c = subst (λ (orders : List Order). RanksRise (FitsBut orders c.args.fixed.now c.args.omitted) c.deref_mut.result.now c.settle.new.ranks) c.as_slice.ensures c.settle.ensures.rises
 
 pub returns-then-settle-clause-some : goal.returns-then-settle-clause-some
 returns-then-settle-clause-some c =
@@ -33,17 +33,17 @@ returns-then-settle-clause-some c =
     let new = c.settle.new.ranks in
     let risen = rises here in
     let whole = take_at new (drop (length new) c.in-Ok.ranks.items) c.in-Ok.ranks.len (omega (arith, risen.size, c.deref_mut.ensures.len)) in
-    subst (IsSpare net (Kept c.args.self.now.over.items) c.args.but) (sym (c.from_vec.ensures ∙ whole))
-    (spare_from_zeros net c.args.self.now c.args.fixed.now c.args.but c.deref_mut.result.now new c.intervals.ensures.net c.requires.round c.requires.fixed (zeros before) risen
-    (subst (λ (orders : List Order). FitsBut orders c.args.fixed.now c.args.but (timeline_of new)) c.as_slice.ensures (c.settle.ensures.fits c.if-settle.true)))
+    subst (IsSpare net (Kept c.args.self.now.over.items) c.args.omitted) (sym (c.from_vec.ensures ∙ whole))
+    (spare_from_zeros net c.args.self.now c.args.fixed.now c.args.omitted c.deref_mut.result.now new c.intervals.ensures.net c.requires.closed c.requires.fixed (zeros before) risen
+    (subst (λ (orders : List Order). FitsBut orders c.args.fixed.now c.args.omitted (timeline_of new)) c.as_slice.ensures (c.settle.ensures.fits c.if-settle.true)))
 
 pub returns-else-settle-clause-none : goal.returns-else-settle-clause-none
 returns-else-settle-clause-none c most spared =
     let here = (goal.at.returns-else-settle-clause-none c).After-settle in
     let before = (goal.at.returns-else-settle-clause-none c).After-deref_mut in
-    let ready = zeros_ready c.args.net.now c.args.self.now c.args.fixed.now c.as_slice.result.now c.deref_mut.result.now c.intervals.ensures.net c.requires.round c.requires.fixed c.as_slice.ensures (zeros before) in
+    let ready = zeros_ready c.args.net.now c.args.self.now c.args.fixed.now c.as_slice.result.now c.deref_mut.result.now c.intervals.ensures.net c.requires.closed c.requires.fixed c.as_slice.ensures (zeros before) in
     let risen = rises here in
-    let low = low_from_zeros c.args.net.now c.args.self.now c.args.fixed.now c.args.but c.intervals.ensures.net c.requires.round c.requires.fixed spared c.deref_mut.result.now c.settle.new.ranks (zeros before) risen in
+    let low = low_from_zeros c.args.net.now c.args.self.now c.args.fixed.now c.args.omitted c.intervals.ensures.net c.requires.closed c.requires.fixed spared c.deref_mut.result.now c.settle.new.ranks (zeros before) risen in
     let many = c.settle.ensures.stuck (λ is. let both : false ≡ true = sym c.if-settle.false ∙ is in cc) low in
     let few = sum_bounded c.settle.new.ranks (risen.within ready.3) in
     let size = risen.size in

@@ -1,5 +1,5 @@
 use Rattle.evidence_check.proofs.PairSets.{all_same}
-use Rattle.evidence_check.specs.Pairs.{IsKept, IsWithin}
+use Rattle.evidence_check.specs.Pairs.{IsKept, IsPairWithin}
 use Rattle.evidence_check.specs.declared.pairs.Order.TheVariants.{Before, NoLater, Equal}
 use Rattle.evidence_check.proofs.orders.Orders.drop_repeats.Goals as goal
 
@@ -19,7 +19,7 @@ returns-clause-keeps c t = (
 
 pub returns-clause-within : goal.returns-clause-within
 returns-clause-within c n within = record {
-  befores = all_same (IsWithin Before n) _ _ (λ pair. (c.drop_repeats.ensures pair).0) within.befores;
-  no_laters = all_same (IsWithin NoLater n) _ _ (λ pair. (c.drop_repeats-2.ensures pair).0) within.no_laters;
-  equals = all_same (IsWithin Equal n) _ _ (λ pair. (c.drop_repeats-3.ensures pair).0) within.equals;
+  befores = all_same (IsPairWithin Before n) _ _ (λ pair. (c.drop_repeats.ensures pair).0) within.befores;
+  no_laters = all_same (IsPairWithin NoLater n) _ _ (λ pair. (c.drop_repeats-2.ensures pair).0) within.no_laters;
+  equals = all_same (IsPairWithin Equal n) _ _ (λ pair. (c.drop_repeats-3.ensures pair).0) within.equals;
 }

@@ -1,6 +1,6 @@
 use Rattle.std.proofs.Common.{◌↔◌, ℕ, le_antisymm, subst, arith}
 use Rattle.net_core.specs.Nets.{points}
-use Rattle.evidence_check.specs.Orders.{KeepsLinks, KeepsOrders}
+use Rattle.evidence_check.specs.Orders.{KeepsLinksBelow, KeepsOrders}
 use Rattle.evidence_check.proofs.OrderSets.{links_more, through}
 use Rattle.evidence_check.proofs.orders.Orders.push_links.Goals as goal
 
@@ -16,5 +16,5 @@ pub returns : goal.returns
 returns c = record {
   within = c.drop_repeats.ensures.within (points c.args.net.now) c.loop-k.invariant.within;
   same = λ t. through _ _ _ (c.drop_repeats.ensures.keeps t)
-      (subst (λ (n : ℕ). KeepsOrders t c.loop-k.self ↔ KeepsLinks c.args.net.now n t) (le_antisymm (omega (arith, c.loop-k.auto.k-end, c.loop-k.invariant.end)) (omega (arith, c.loop-k-test.false, c.loop-k.invariant.end))) (c.loop-k.invariant.keeps t));
+      (subst (λ (n : ℕ). KeepsOrders t c.loop-k.self ↔ KeepsLinksBelow c.args.net.now n t) (le_antisymm (omega (arith, c.loop-k.auto.k-end, c.loop-k.invariant.end)) (omega (arith, c.loop-k-test.false, c.loop-k.invariant.end))) (c.loop-k.invariant.keeps t));
 }

@@ -1,7 +1,7 @@
 use Rattle.std.proofs.Common.{◌∙◌, List, sym, ap, subst, min, arith}
 use Rattle.tml_refs.specs.declared.name_index.Entry.{Entry}
 use Rattle.tml_refs.specs.Firsts.{bound, nowhere}
-use Rattle.tml_refs.specs.NameIndex.{AreInOrder, IsFirstRepeat}
+use Rattle.tml_refs.specs.NameIndex.{AreEntriesInOrder, IsFirstRepeat}
 use Rattle.tml_refs.proofs.Scanning.{scanned_other, scanned_same, scanned_to_end}
 use Rattle.tml_refs.proofs.name_index.NameIndex.first_repeat.Goals as goal
 use Rattle.tml_refs.proofs.name_index.NameIndex.first_repeat.Goals.{then-has_name_of, else-has_name_of}
@@ -9,7 +9,7 @@ use Rattle.tml_refs.proofs.name_index.NameIndex.first_repeat.Goals.{then-has_nam
 pub loop-i-preserved : goal.loop-i-preserved
 loop-i-preserved c =
     let slice = c.as_slice-entries in
-    let order = subst AreInOrder (sym slice.ensures.value) c.self.invariant in
+    let order = subst AreEntriesInOrder (sym slice.ensures.value) c.self.invariant in
     let loop = c.loop-i in
     record {
       from = omega arith;

@@ -3,7 +3,7 @@ use Rattle.std.specs.List.{Contains}
 use Rattle.std.proofs.lemmas.List.Elements.{All-get_or, Contains-get_or}
 use Rattle.net_orders.specs.declared.orders.Order.{Order}
 use Rattle.tml_score.specs.Reached.{PlainReached}
-use Rattle.tml_score.specs.Search.{Extends, GoesOn, IsLed, IsPassed, IsSearch, IsThrough, IsWay, basis_of, remains}
+use Rattle.tml_score.specs.Search.{ExtendsReached, GoesOn, IsLed, IsPassed, IsSearch, IsThrough, IsRemainingWay, basis_of, remains}
 use Rattle.tml_score.specs.Tree.{no_order}
 use Rattle.tml_score.specs.declared.ends.End.TheVariants.{From}
 use Rattle.tml_score.proofs.GraphLaws.{at_end}
@@ -62,8 +62,8 @@ loop-order-preserved c =
           let goes : GoesOn basis asked (λ x. x ≡ o) mid next (Ok false) = subst (λ (b : Bool). GoesOn basis asked (λ x. x ≡ o) mid next (Ok b)) w.if-branch.false w.in_ok-take.ensures in
           subst (λ (r : PlainReached). record {
             search : IsSearch basis asked r;
-            extends : Extends old r;
-            passed : (k : ℕ) (d : Order) → k < i + 1 → IsWay basis asked (get_or items k d) → IsPassed basis asked r.points (get_or items k d);
+            extends : ExtendsReached old r;
+            passed : (k : ℕ) (d : Order) → k < i + 1 → IsRemainingWay basis asked (get_or items k d) → IsPassed basis asked r.points (get_or items k d);
           }) (sym w.reached-is) (record {
             search = goes.0;
             extends = extends_then old mid next was.extends goes.1;
@@ -72,8 +72,8 @@ loop-order-preserved c =
       | else-remains-via-else-remains w ↦
           subst (λ (r : PlainReached). record {
             search : IsSearch basis asked r;
-            extends : Extends old r;
-            passed : (k : ℕ) (d : Order) → k < i + 1 → IsWay basis asked (get_or items k d) → IsPassed basis asked r.points (get_or items k d);
+            extends : ExtendsReached old r;
+            passed : (k : ℕ) (d : Order) → k < i + 1 → IsRemainingWay basis asked (get_or items k d) → IsPassed basis asked r.points (get_or items k d);
           }) (sym w.reached-is) (record {
             search = was.search;
             extends = was.extends;
@@ -91,5 +91,5 @@ returns c =
       was.extends,
       λ o way from.
           let (k, lt, e) = (at_end c.args.self.now.net.now c.args.self.now.graph.now c.requires.ready.graph From c.of_point-order-items.result.now c.point-point.result c.of_point-order-items.ensures o).1 (way.0, from ∙ sym c.point-point.ensures.point) in
-          subst (IsPassed basis c.args.asked c.loop-order.reached.points) e (was.passed k o (omega (arith, lt, c.loop-order-test.false)) (subst (IsWay basis c.args.asked) (sym e) way)),
+          subst (IsPassed basis c.args.asked c.loop-order.reached.points) e (was.passed k o (omega (arith, lt, c.loop-order-test.false)) (subst (IsRemainingWay basis c.args.asked) (sym e) way)),
     )

@@ -3,9 +3,9 @@ use Rattle.std.proofs.lemmas.Bool.{OnTrue_at}
 use Rattle.std.proofs.lemmas.List.Elements.{All-contains, All-get_or}
 use Rattle.net_orders.specs.declared.orders.Order.{Order}
 use Rattle.tml_score.specs.Ends.{far_end_of, opposite}
-use Rattle.tml_score.specs.Meeting.{AreApart, IsOn, IsPassedAt, IsSide, Visits}
+use Rattle.tml_score.specs.Meeting.{ShareNoPoint, IsOn, IsPassedAt, IsSide, VisitsPoint}
 use Rattle.tml_score.specs.Reached.{PlainReached}
-use Rattle.tml_score.specs.Search.{Extends, IsWay, basis_of, remains}
+use Rattle.tml_score.specs.Search.{ExtendsReached, IsRemainingWay, basis_of, remains}
 use Rattle.tml_score.specs.Tree.{no_order}
 use Rattle.tml_score.proofs.Searching.{asked_range}
 use Rattle.tml_score.proofs.GraphLaws.{at_end, by_points}
@@ -64,14 +64,14 @@ loop-order-preserved c =
     let point : P c.point-point.result = subst P (sym c.point-point.ensures.point) (All-get_or P old.points c.args.turn 0 c.requires.turn c.requires.own.all) in
     let close : (r : PlainReached) → Type 0 = λ r. record {
       side : IsSide basis P r;
-      extends : Extends old r;
-      apart : AreApart r other;
-      passed : (k : ℕ) (d : Order) → k < i + 1 → IsWay basis asked (get_or items k d) → IsPassedAt basis asked r.points (far_end_of near (get_or items k d));
+      extends : ExtendsReached old r;
+      apart : ShareNoPoint r other;
+      passed : (k : ℕ) (d : Order) → k < i + 1 → IsRemainingWay basis asked (get_or items k d) → IsPassedAt basis asked r.points (far_end_of near (get_or items k d));
     } in
     elim c.if-remains.branch [
       | then-remains+else-joins+in_ok-visit+else-branch w ↦
           let next = w.visit.new.own in
-          let visits : Visits basis asked far other mid next (Ok false) = subst (λ x. Visits basis asked x other mid next (Ok false)) w.across-far.ensures (subst (λ (b : Bool). Visits basis asked w.across-far.result other mid next (Ok b)) w.if-branch.false w.in_ok-visit.ensures) in
+          let visits : VisitsPoint basis asked far other mid next (Ok false) = subst (λ x. VisitsPoint basis asked x other mid next (Ok false)) w.across-far.ensures (subst (λ (b : Bool). VisitsPoint basis asked w.across-far.result other mid next (Ok b)) w.if-branch.false w.in_ok-visit.ensures) in
           let now = side_visited basis asked P far other mid next (turn.reaches (sym w.if-remains.ensures) point) was.side was.apart visits in
           subst close (sym w.own-is) (record {
             side = now.0;
@@ -110,7 +110,7 @@ returns-then-branch c =
     let far = c.across-far.result in
     let turn = at_turn basis asked c.requires.ready c.requires.asked near items c.point-point.result c.loop-order.order-index c.of_point-order-items.ensures c.loop-order-test.true in
     let point : P c.point-point.result = subst P (sym c.point-point.ensures.point) (All-get_or P c.args.own.now.points c.args.turn 0 c.requires.turn c.requires.own.all) in
-    let visits : Visits basis asked far other c.loop-order.own c.visit.new.own (Ok true) = subst (λ (b : Bool). Visits basis asked far other c.loop-order.own c.visit.new.own (Ok b)) c.if-branch.true c.in_ok-visit.ensures in (
+    let visits : VisitsPoint basis asked far other c.loop-order.own c.visit.new.own (Ok true) = subst (λ (b : Bool). VisitsPoint basis asked far other c.loop-order.own c.visit.new.own (Ok b)) c.if-branch.true c.in_ok-visit.ensures in (
       subst (IsSide basis P) (sym visits.1) c.loop-order.invariant.side,
       (far, subst P (sym c.across-far.ensures) (turn.reaches (sym c.if-remains.ensures) point), All-contains (IsOn (opposite near) basis asked) other.points far c.requires.other.all visits.0),
     )
@@ -125,5 +125,5 @@ returns c =
       was.apart,
       λ o way near.
           let (k, lt, e) = (at_end c.args.self.now.net.now c.args.self.now.graph.now c.requires.ready.graph c.args.near c.of_point-order-items.result.now c.point-point.result c.of_point-order-items.ensures o).1 (way.0, near ∙ sym c.point-point.ensures.point) in
-          subst (λ (x : Order). IsPassedAt basis asked c.loop-order.own.points (far_end_of c.args.near x)) e (was.passed k o (omega (arith, lt, c.loop-order-test.false)) (subst (IsWay basis asked) (sym e) way)),
+          subst (λ (x : Order). IsPassedAt basis asked c.loop-order.own.points (far_end_of c.args.near x)) e (was.passed k o (omega (arith, lt, c.loop-order-test.false)) (subst (IsRemainingWay basis asked) (sym e) way)),
     )

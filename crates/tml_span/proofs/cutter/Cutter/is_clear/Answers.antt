@@ -1,9 +1,10 @@
 use Rattle.std.proofs.Common.{ℕ, List, subst, sym, arith}
+use Rattle.std.proofs.lemmas.Bool.{not-true}
 use Rattle.tml_span.specs.Cutter.{IsClear}
 use Rattle.tml_span.specs.Reader.{Reading}
 use Rattle.tml_span.specs.View.{unit_of}
 use Rattle.tml_span.specs.References.{IsBadIn, Piece}
-use Rattle.tml_span.proofs.Clear.{is_false, no_bad}
+use Rattle.tml_span.proofs.Clear.{no_bad}
 use Rattle.tml_span.proofs.cutter.Cutter.is_clear.Goals as goal
 
 pub returns-then-end-self : goal.returns-then-end-self
@@ -15,5 +16,5 @@ returns-then-end-self c = λ yes.
 
 pub returns : goal.returns
 returns c = λ kind place bad.
-    let none = c.has_pieces.ensures (is_false c.has_pieces.result kind) in
+    let none = c.has_pieces.ensures (not-true c.has_pieces.result kind) in
     subst (λ (pieces : List Piece). IsBadIn pieces place → ⊥) (sym none) (λ nowhere. nowhere) bad

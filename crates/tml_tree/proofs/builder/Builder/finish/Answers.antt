@@ -6,19 +6,19 @@ use Rattle.tml_tree.specs.declared.node.Tag.{Tag}
 use Rattle.tml_span.specs.Units.{PlainUnit}
 use Rattle.tml_tree.specs.Nesting.{is_element}
 use Rattle.tml_tree.specs.Roots.{EndsIn}
-use Rattle.tml_tree.specs.Taking.{HasTaken}
+use Rattle.tml_tree.specs.Taking.{HasBuilt}
 use Rattle.tml_tree.specs.Trees.{Document, Unclosed}
 use Rattle.tml_tree.specs.View.{node_of, tag_node}
 use Rattle.tml_tree.proofs.Taken.{ends_open, ends_none, ends_whole}
 use Rattle.tml_tree.proofs.builder.Builder.finish.Goals as goal
 
 found : (o : Option Tag) (b : Builder) → length b.frames.items ≡ 0 → MatchOption o (filter is_element (map node_of b.nodes.items) ≡ []) (λ t. EndsIn (tag_node t) (filter is_element (map node_of b.nodes.items)))
-    → IfSome o (λ t. (us : List PlainUnit) → HasTaken us b → Document (tag_node t) us)
+    → IfSome o (λ t. (us : List PlainUnit) → HasBuilt us b → Document (tag_node t) us)
 found None b e h = tt
 found (Some t) b e h = λ us s. ends_whole us b (tag_node t) s e h
 
 missed : (o : Option Tag) (b : Builder) → length b.frames.items ≡ 0 → MatchOption o (filter is_element (map node_of b.nodes.items) ≡ []) (λ t. EndsIn (tag_node t) (filter is_element (map node_of b.nodes.items)))
-    → IsNone o → (us : List PlainUnit) → HasTaken us b → Unclosed us
+    → IsNone o → (us : List PlainUnit) → HasBuilt us b → Unclosed us
 missed None b e h n = λ us s. ends_none us b s e h
 missed (Some t) b e h n = absurd cc
 

@@ -1,7 +1,7 @@
 use Rattle.std.proofs.Common.{◌≡◌, ℕ, FitsSigned, of_z, to_z, w64, List, Some, ap, sym, subst, ◌∙◌, rules}
 use Rattle.std.proofs.lemmas.Int.{to_z-of_z}
 use Rattle.net_core.specs.Nets.{upper}
-use Rattle.walks.specs.Dates.{AreBelow, AreFrom}
+use Rattle.walks.specs.Dates.{AreDatesBelow, AreDatesFrom}
 use Rattle.walks.specs.Graphs.{IsCalendarWay, IsDateEdge}
 use Rattle.walks.specs.declared.dates.Date.{Date}
 use Rattle.walks.specs.declared.states.Entry.{Entry}
@@ -21,12 +21,12 @@ is_upper c =
     sym c.upper.ensures ∙ c.in-Some.is ∙ ap Some (sym (to_z-of_z w64 c.in-Some.number fits))
 
 -- the dates are those of the graph from the number on
-from_graph : (c : After-dates_from) → AreFrom (first c).number c.args.self.now.lowers.items c.dates_from.result.now
-from_graph c = subst (λ (all : List Date). AreFrom (first c).number all c.dates_from.result.now) c.deref.ensures.value c.dates_from.ensures.dates
+from_graph : (c : After-dates_from) → AreDatesFrom (first c).number c.args.self.now.lowers.items c.dates_from.result.now
+from_graph c = subst (λ (all : List Date). AreDatesFrom (first c).number all c.dates_from.result.now) c.deref.ensures.value c.dates_from.ensures.dates
 
 pub follow_dates-requires-clause-lowers : goal.follow_dates-requires-clause-lowers
 follow_dates-requires-clause-lowers c =
-    subst (λ (n : ℕ). AreBelow n c.dates_from.result.now) (sym c.requires.points) (dates_below c.args.net.now c.args.self.now c.requires.graph (first c).number c.dates_from.result.now (from_graph c))
+    subst (λ (n : ℕ). AreDatesBelow n c.dates_from.result.now) (sym c.requires.points) (dates_below c.args.net.now c.args.self.now c.requires.graph (first c).number c.dates_from.result.now (from_graph c))
 
 pub returns-in_default-clause-expanded : goal.returns-in_default-clause-expanded
 returns-in_default-clause-expanded c = none_expanded c.args.net.now c.args.head c.args.states.now.entries (ap (λ (e : Entry). upper c.args.net.now e.point) (sym c.entry-point.ensures.entry) ∙ sym c.upper.ensures ∙ c.in_default.is)

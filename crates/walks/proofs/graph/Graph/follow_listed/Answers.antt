@@ -1,8 +1,8 @@
 use Rattle.std.proofs.Common.{ap, sym, subst, List, ℕ}
 use Rattle.std.specs.List.{Contains}
 use Rattle.net_core.specs.Nets.{points}
-use Rattle.walks.specs.Edges.{AreFrom}
-use Rattle.walks.specs.Graphs.{AreLeaving}
+use Rattle.walks.specs.Edges.{AreEdgesFrom}
+use Rattle.walks.specs.Graphs.{AreEdgesLeaving}
 use Rattle.walks.specs.States.{entry_at}
 use Rattle.walks.specs.declared.edges.Edge.{Edge}
 use Rattle.walks.specs.declared.states.Entry.{Entry}
@@ -12,15 +12,15 @@ use Rattle.walks.proofs.graph.Graph.follow_listed.Goals as goal
 use Rattle.walks.proofs.graph.Graph.follow_listed.Goals.{After-edges_from}
 
 -- the edges are those of the graph that leave the point
-from_graph : (c : After-edges_from) → AreFrom c.entry-point.result.point c.args.self.now.edges.items c.edges_from.result.now
-from_graph c = subst (λ (all : List Edge). AreFrom c.entry-point.result.point all c.edges_from.result.now) c.deref.ensures.value c.edges_from.ensures
+from_graph : (c : After-edges_from) → AreEdgesFrom c.entry-point.result.point c.args.self.now.edges.items c.edges_from.result.now
+from_graph c = subst (λ (all : List Edge). AreEdgesFrom c.entry-point.result.point all c.edges_from.result.now) c.deref.ensures.value c.edges_from.ensures
 
 pub follow_edges-requires-clause-leaving : goal.follow_edges-requires-clause-leaving
 follow_edges-requires-clause-leaving c =
     let edges = c.edges_from.result.now in
     let all = leaving c.args.net.now c.args.self.now c.requires.graph c.entry-point.result.point edges c.requires.net (from_graph c) in
-    subst (λ (n : ℕ). AreLeaving (entry_at c.args.states.now.entries c.args.head).point n edges) (sym c.requires.points)
-    (subst (λ (e : Entry). AreLeaving e.point (points c.args.net.now) edges) c.entry-point.ensures.entry all)
+    subst (λ (n : ℕ). AreEdgesLeaving (entry_at c.args.states.now.entries c.args.head).point n edges) (sym c.requires.points)
+    (subst (λ (e : Entry). AreEdgesLeaving e.point (points c.args.net.now) edges) c.entry-point.ensures.entry all)
 
 pub returns-clause-grown : goal.returns-clause-grown
 returns-clause-grown c =

@@ -6,7 +6,7 @@ use Rattle.seconds_core.specs.Evidence.{Placed, Cycle}
 use Rattle.seconds_core.specs.Placed.{HasPlacing, IsPlaced}
 use Rattle.seconds_core.specs.Timed.{PlainTimed}
 use Rattle.seconds_core.specs.declared.line.Line.{Line}
-use Rattle.seconds_format.specs.Texts.{IsText}
+use Rattle.seconds_format.specs.Texts.{IsSecondsText}
 use Rattle.runs.specs.Rows.{Freedom, Rows}
 use Rattle.runs.specs.declared.status.Status.{Status}
 use Rattle.runs.specs.declared.status.Status.TheVariants.{Clash, Done}
@@ -14,11 +14,11 @@ use Rattle.seconds_search.specs.Decided.{IsShortCycle}
 
 -- the text is that of a placing
 abbrev pub ShowsPlacing : PlainTimed → List ℕ → Type 0
-ShowsPlacing timed text = (seconds : List ℤ) × IsPlaced timed seconds × IsText (Placed seconds) text
+ShowsPlacing timed text = (seconds : List ℤ) × IsPlaced timed seconds × IsSecondsText (Placed seconds) text
 
 -- there is no placing, and the text is that of a negative cycle
 abbrev pub ShowsCycle : PlainTimed → List ℕ → Type 0
-ShowsCycle timed text = (HasPlacing timed → ⊥) × (lines : List Line) × IsShortCycle timed lines × IsText (Cycle lines) text
+ShowsCycle timed text = (HasPlacing timed → ⊥) × (lines : List Line) × IsShortCycle timed lines × IsSecondsText (Cycle lines) text
 
 -- a placing is printed, or a cycle that shows that there is none
 abbrev pub OfTimed : PlainTimed → Status → List ℕ → Type 0

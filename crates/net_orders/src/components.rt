@@ -1,5 +1,5 @@
 //! Whether orders have a closed walk.
-ghost use Rattle.net_orders.specs.Sequence.{AreMet, ArePoints};
+ghost use Rattle.net_orders.specs.Sequence.{AreMetAlong, ArePoints};
 ghost use Rattle.order_closure.specs.Tables.{AreInRange};
 ghost use Rattle.std.specs.List.{All};
 ghost use Rattle.std.specs.Prelude.{IfOk, OnOk, length, ◌<◌, ◌≡◌};
@@ -104,7 +104,7 @@ fn flood(
     components: &mut [Option<usize>],
     met: &mut Vec<usize>,
 ) -> Result<(), Memory>
-    requires { AreMet (length components.old) entering.now turned.now met.old.items }
+    requires { AreMetAlong (length components.old) entering.now turned.now met.old.items }
     ensures { OnOk result (ArePoints (length components.old) met.new.items) }
 {
     'flood: for _ in 0..components.len() {
@@ -125,7 +125,7 @@ fn spread(
     components: &mut [Option<usize>],
     met: &mut Vec<usize>,
 ) -> Result<(), Memory>
-    requires met { AreMet (length components.old) entering.now turned.now met.old.items }
+    requires met { AreMetAlong (length components.old) entering.now turned.now met.old.items }
     requires point { point < length components.old }
     ensures { OnOk result (ArePoints (length components.old) met.new.items) }
 {

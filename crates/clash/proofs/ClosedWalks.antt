@@ -15,7 +15,7 @@ use Rattle.net_core.specs.declared.rels.Rel.TheVariants as rel
 use Rattle.net_core.specs.declared.step.Step.{Step}
 use Rattle.net_core.specs.declared.step.Step.TheVariants.{Link, Span, Calendar}
 use Rattle.net_core.proofs.StepLaws.{fits_fewer}
-use Rattle.net_core.proofs.WalkLaws.{over_chosen, over_links, over_or_not, round_clashes, round_from, round_over, step_goes}
+use Rattle.net_core.proofs.WalkLaws.{over_chosen, over_links, over_or_not, closed_walk_clashes, closed_walk_from, closed_walk_over, step_goes}
 use Rattle.net_core.specs.Entailment.{HasTimelineWith}
 use Rattle.clash.specs.Minimal.{Before, IsFirstClash, IsMarkedWalk, IsSpared, UpTo}
 use Rattle.clash.specs.declared.closed_walk.ClosedWalk.{ClosedWalk}
@@ -31,35 +31,35 @@ spared_fewer net Chosen Fewer k fewer spared = (spared.0, fits_fewer net (Others
 
 -- a closed walk goes over a link where the others of its links do not clash
 pub goes_over : (net : PlainNet) (Chosen : ℕ → Type 0) (k : ℕ) (steps : List Step) → IsSpared net Chosen k → IsClosedWalk net Chosen steps → GoesOver steps k
-goes_over net Chosen k steps spared round = elim (over_or_not steps k) [
+goes_over net Chosen k steps spared closed = elim (over_or_not steps k) [
   | inl over ↦ over
   | inr not ↦
-      let others = round_over net Chosen (Others Chosen k) steps (λ j over. (over_chosen net Chosen steps round.0 round.0 j round.1.0 over, λ e. not (subst (GoesOver steps) e over))) round in
-      absurd (round_clashes net (Others Chosen k) steps others spared.0 spared.1)
+      let others = closed_walk_over net Chosen (Others Chosen k) steps (λ j over. (over_chosen net Chosen steps closed.0 closed.0 j closed.1.0 over, λ e. not (subst (GoesOver steps) e over))) closed in
+      absurd (closed_walk_clashes net (Others Chosen k) steps others spared.0 spared.1)
 ]
 
 -- where no walk is closed over a link that is needed some timeline fits
-pub none_round : (net : PlainNet) (keep : List Bool) (needed : ℕ) → IsNet net → IsSpared net (Kept keep) needed
+pub no_closed_walk : (net : PlainNet) (keep : List Bool) (needed : ℕ) → IsNet net → IsSpared net (Kept keep) needed
     → ((steps : List Step) → IsClosedWalk net (Kept keep) steps → GoesOver steps needed → ⊥) → HasTimelineWith net (Kept keep)
-none_round net keep needed is spared none = elim (fits_or_closed_walk net (λ k. slice_index_or keep k false) is) [
+no_closed_walk net keep needed is spared none = elim (fits_or_closed_walk net (λ k. slice_index_or keep k false) is) [
   | inl fits ↦ (fits.0, fits.1)
-  | inr round ↦ absurd (none round.0 round.1 (goes_over net (Kept keep) needed round.0 spared round.1))
+  | inr closed ↦ absurd (none closed.0 closed.1 (goes_over net (Kept keep) needed closed.0 spared closed.1))
 ]
 
 -- where links clash, some walk is closed over one that is needed
-pub some_round : (net : PlainNet) (keep : List Bool) (needed : ℕ) → IsNet net → IsSpared net (Kept keep) needed → Clashes net (Kept keep)
+pub not_none_closed_walk : (net : PlainNet) (keep : List Bool) (needed : ℕ) → IsNet net → IsSpared net (Kept keep) needed → Clashes net (Kept keep)
     → ((steps : List Step) → IsClosedWalk net (Kept keep) steps → GoesOver steps needed → ⊥) → ⊥
-some_round net keep needed is spared clashes none = let fits = none_round net keep needed is spared none in clashes fits.0 fits.1
+not_none_closed_walk net keep needed is spared clashes none = let fits = no_closed_walk net keep needed is spared none in clashes fits.0 fits.1
 
 -- the orders that a link is
 abbrev pub orders_of_link : PlainNet → ℕ → List Atom
 orders_of_link net k = let link = link_at net k in atoms_of link.a link.rel link.b
 
 -- a closed walk over a link can begin with one of its orders
-pub round_through : (net : PlainNet) (Chosen : ℕ → Type 0) (k : ℕ) (steps : List Step) → IsClosedWalk net Chosen steps → GoesOver steps k
+pub closed_walk_through : (net : PlainNet) (Chosen : ℕ → Type 0) (k : ℕ) (steps : List Step) → IsClosedWalk net Chosen steps → GoesOver steps k
     → (i : ℕ) × (a : Atom) × (slice_get (orders_of_link net k) i ≡ Some a) × HasWalk net Chosen a.from a.from true
-round_through net Chosen k steps round (step, has, is) =
-    let goes = step_goes net Chosen steps round.0 round.0 step round.1.0 has in
+closed_walk_through net Chosen k steps closed (step, has, is) =
+    let goes = step_goes net Chosen steps closed.0 closed.0 step closed.1.0 has in
     by_step step goes.0 goes.1.0 has is
   where
     by_step : (step : Step) (a : Atom) → atom_of net step ≡ Some a → Contains steps step → link_of step ≡ Some k
@@ -69,25 +69,25 @@ round_through net Chosen k steps round (step, has, is) =
         let here : slice_get (orders_of_link net j) i ≡ Some a =
         option_and_then_some (λ (l : NetLink). slice_get (atoms_of l.a l.rel l.b) i) (slice_get net.links j) a at (λ l found here.
         subst (λ (x : NetLink). slice_get (atoms_of x.a x.rel x.b) i ≡ Some a) (sym (get_or_from_slice_get net.links j l (record { a = 0; rel = rel.Before; b = 0 }) found)) here) in
-        (i, a, subst (λ (n : ℕ). slice_get (orders_of_link net n) i ≡ Some a) same here, round_from net Chosen steps (Link j i) a round has at)
+        (i, a, subst (λ (n : ℕ). slice_get (orders_of_link net n) i ≡ Some a) same here, closed_walk_from net Chosen steps (Link j i) a closed has at)
     by_step (Span i) a at has is = absurd cc
     by_step (Calendar p q) a at has is = absurd cc
 
--- ---- rounds with marks
+-- ---- closed walks with marks
 
 module _ (net : PlainNet) where
   -- a walk is closed over the links that are marked, where those are the links that it goes over
   pub goes_from_marks : (walk : List Step) (marks : List Bool) → IsClosedWalk net EveryLink walk → ((k : ℕ) → k < length net.links → Kept marks k ↔ GoesOver walk k) → IsClosedWalk net (Kept marks) walk
   goes_from_marks walk marks goes over =
-      round_over net EveryLink (Kept marks) walk (λ k gone. (over k (over_links net EveryLink walk goes.0 goes.0 k goes.1.0 gone)).1 gone) goes
+      closed_walk_over net EveryLink (Kept marks) walk (λ k gone. (over k (over_links net EveryLink walk goes.0 goes.0 k goes.1.0 gone)).1 gone) goes
 
   -- a mark is that of a link
-  pub kept_below : (round : ClosedWalk) → IsMarkedWalk net round → (k : ℕ) → Kept round.over.items k → k < length net.links
-  kept_below round whole k kept = omega (arith, kept_within round.over.items k kept, whole.size)
+  pub kept_below : (closed : ClosedWalk) → IsMarkedWalk net closed → (k : ℕ) → Kept closed.over.items k → k < length net.links
+  kept_below closed whole k kept = omega (arith, kept_within closed.over.items k kept, whole.size)
 
   -- a marked link is one that the walk goes over, and so one of any set that the walk goes over
-  pub marked_chosen : (Chosen : ℕ → Type 0) (round : ClosedWalk) → IsMarkedWalk net round → IsClosedWalk net Chosen round.walk → (k : ℕ) → Kept round.over.items k → Chosen k
-  marked_chosen Chosen round whole goes k kept = over_chosen net Chosen round.walk goes.0 goes.0 k goes.1.0 ((whole.over k (kept_below round whole k kept)).0 kept)
+  pub marked_chosen : (Chosen : ℕ → Type 0) (closed : ClosedWalk) → IsMarkedWalk net closed → IsClosedWalk net Chosen closed.walk → (k : ℕ) → Kept closed.over.items k → Chosen k
+  marked_chosen Chosen closed whole goes k kept = over_chosen net Chosen closed.walk goes.0 goes.0 k goes.1.0 ((whole.over k (kept_below closed whole k kept)).0 kept)
 
 -- a mark that is taken away and set again is as it was
 pub set_again : (marks : List Bool) (k : ℕ) → Kept marks k → slice_set (slice_set marks k false) k true ≡ marks

@@ -2,8 +2,8 @@ use Rattle.std.proofs.Common.{◌≡◌, ℕ, ◌<◌, length, Some, true}
 use Rattle.std.specs.List.{slice_get}
 use Rattle.net_core.specs.Walks.{HasWalk, Kept}
 use Rattle.net_core.specs.declared.atom.Atom.{Atom}
-use Rattle.clash.proofs.Rounds.{orders_of_link}
-use Rattle.clash.proofs.closed_walk.round_over.Given as goal
+use Rattle.clash.proofs.ClosedWalks.{orders_of_link}
+use Rattle.clash.proofs.closed_walk.closed_walk_over.Given as goal
 
 -- no walk leads from where one of the orders so far begins to there again with a strict step
 abbrev pub invariant-loop-number : goal.invariant-loop-number

@@ -1,7 +1,7 @@
 use Rattle.std.proofs.Common.{◌≡◌, ◌<◌, ◌++◌, ◌∷◌, [], List, length, ap, subst, arith, rules}
 use Rattle.std.specs.List.{Contains}
 use Rattle.tml_score.proofs.ReachedLaws.{few_placed, placed_push}
-use Rattle.tml_score.proofs.reached.Reached.add.Goals as goal
+use Rattle.tml_score.proofs.reached.ReachedPoints.add.Goals as goal
 
 pub overflow_cast-place : goal.overflow_cast-place
 overflow_cast-place c = omega (arith, few_placed c.self.inside.points.items c.self.inside.places.items c.self.invariant, c.self.invariant.few, c.len-place.ensures)

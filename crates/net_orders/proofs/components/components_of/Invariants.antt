@@ -1,6 +1,6 @@
 use Rattle.std.proofs.Common.{◌≡◌, length}
 use Rattle.net_orders.specs.Sequence.{ArePoints}
-use Rattle.net_orders.proofs.rings.components_of.Given as goal
+use Rattle.net_orders.proofs.components.components_of.Given as goal
 
 abbrev pub invariant-loop-number : goal.invariant-loop-number
 invariant-loop-number l = record {

@@ -6,8 +6,8 @@ use Rattle.std.proofs.lemmas.Option.{slice_get_within}
 use Rattle.net_core.specs.Walks.{HasWalk, Kept}
 use Rattle.net_core.specs.declared.atom.Atom.{Atom}
 use Rattle.net_core.specs.declared.walk.Walk.{Walk}
-use Rattle.clash.proofs.Rounds.{orders_of_link, round_through}
-use Rattle.clash.proofs.closed_walk.round_over.Goals as goal
+use Rattle.clash.proofs.ClosedWalks.{orders_of_link, closed_walk_through}
+use Rattle.clash.proofs.closed_walk.closed_walk_over.Goals as goal
 
 pub loop-number-preserved : goal.loop-number-preserved
 loop-number-preserved c =
@@ -29,8 +29,8 @@ loop-number-preserved c =
     }
 
 pub returns-clause-none : goal.returns-clause-none
-returns-clause-none c steps round over =
+returns-clause-none c steps closed over =
     let net = c.args.net.now in
-    let begun = round_through net (Kept c.args.keep.now) c.args.link steps round over in
+    let begun = closed_walk_through net (Kept c.args.keep.now) c.args.link steps closed over in
     let within = slice_get_within (orders_of_link net c.args.link) begun.0 begun.1 begun.2 in
     c.loop-number.invariant.none begun.0 begun.1 (omega (arith, within, c.loop-number-test.false, c.loop-number.invariant.end)) begun.2 begun.3

@@ -1,11 +1,11 @@
 use Rattle.std.proofs.Common.{◌≡◌, length}
-use Rattle.net_orders.specs.Sequence.{ArePoints, IsNumber}
+use Rattle.net_orders.specs.Sequence.{ArePoints, IsOrderNumber}
 use Rattle.net_orders.proofs.Measures.{numbers_left}
-use Rattle.net_orders.proofs.rings.spread.Given as goal
+use Rattle.net_orders.proofs.components.spread.Given as goal
 
 abbrev pub invariant-loop-next : goal.invariant-loop-next
 invariant-loop-next l = record {
-  next : IsNumber (length l.entering.before.items) l.next;
+  next : IsOrderNumber (length l.entering.before.items) l.next;
   size : length l.components ≡ length l.fn.components;
   met : ArePoints (length l.components) l.met.items;
 }

@@ -1,6 +1,6 @@
 use Rattle.std.proofs.Common.{◌≡◌, length}
 use Rattle.net_orders.specs.Sequence.{ArePoints}
-use Rattle.net_orders.proofs.rings.flood.Given as goal
+use Rattle.net_orders.proofs.components.flood.Given as goal
 
 abbrev pub invariant-flood : goal.invariant-flood
 invariant-flood l = record {
