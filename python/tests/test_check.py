@@ -221,8 +221,23 @@ class Formats(CorpusTest):
                 "c.xml: not judged: no such file or directory",
                 "3 files: 1 accepted, 1 with a fault, 1 not judged",
                 "      1  10 MissingAttribute",
+                "not looked for: probable mistakes (--lint), contradictions (--clashes)",
             ],
         )
+
+    def test_what_was_not_looked_for(self) -> None:
+        lint, clashes = "probable mistakes (--lint)", "contradictions (--clashes)"
+        for words, said in (
+            ((), [f"not looked for: {lint}, {clashes}"]),
+            (("--lint",), [f"not looked for: {clashes}"]),
+            (("--clashes",), [f"not looked for: {lint}"]),
+            (("--lint", "--clashes"), []),
+        ):
+            with self.subTest(words):
+                _, lines, _ = self.run_it("check", *words, "a.xml")
+                self.assertEqual([line for line in lines if line.startswith("not looked for")], said)
+                _, lines, error = self.run_it("check", *words, "--format", "jsonl", "a.xml")
+                self.assertEqual((len(lines), [line for line in error.splitlines() if line.startswith("not looked for")]), (1, said))
 
     def test_json(self) -> None:
         lines = self.run_it("check", "--format", "json", *self.paths)[1]

@@ -267,7 +267,8 @@ class WrongLibrary(LibraryTest):
                     ended = [line.split(":")[0] for line in lines if "the process that examined it was ended" in line]
                     self.assertEqual(ended, [f"d/{number:04}.xml" for number in (5, 100, 101, 998)])
                     self.assertIn("d/0640.xml: not judged: tml ran out of memory", lines)
-                    self.assertRegex(lines[-1], r"^1000 files: (995 accepted|0 with a clash, 995 without), 0 with a fault, 5 not judged$")
+                    counts = r"(?m)^1000 files: (995 accepted|0 with a clash, 995 without), 0 with a fault, 5 not judged$"
+                    self.assertRegex(out.decode(), counts)
 
     def started(self, *words: str) -> tuple[subprocess.Popen[bytes], Path]:
         """A run of `check` that is under way, and the file in which each call leaves the number of its process."""

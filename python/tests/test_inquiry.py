@@ -49,11 +49,12 @@ class Both(InquiryTest):
         self.assertEqual(lines[:6], said("./b.xml"))
         self.assertTrue(lines[6].startswith("./c.xml:2:1: error: 10 MissingAttribute: "), lines[6])
         self.assertEqual(
-            lines[-3:],
+            lines[-4:],
             [
                 "gone.xml: not judged: no such file or directory",
                 "4 files: 1 accepted, 1 with a clash, 1 with a fault, 1 not judged",
                 "      1  10 MissingAttribute",
+                "not looked for: probable mistakes (--lint)",
             ],
         )
 
@@ -62,7 +63,7 @@ class Both(InquiryTest):
         _, lines, _ = self.run_it("check", "--clashes", "--more", "5", "c.xml")
         self.assertEqual(lines[2], "    ^~~~~~~~")
         self.assertIn("this EVENT has no text", lines[0])
-        self.assertIn("further faults", lines[-1])
+        self.assertIn("further faults", lines[-2])
 
     def test_each_file_is_read_once_and_asked_the_fewest_questions(self) -> None:
         fake = self.fake(f'echo "$1" >> "{self.path("asked")}"\nexec {TML} "$@"')
@@ -96,7 +97,7 @@ class Both(InquiryTest):
             times = f'<TIMEX3 tid="{name}" type="DATE" value="{left}"/><TIMEX3 tid="b" type="DATE" value="{right}"/>'
             self.write(name, document(times + link(name, "BEFORE" if left < right else "AFTER", "b")))
         status, lines, _ = self.run_it("check", "--clashes", "--jobs", "1", "t.xml", "u.xml", "v.xml", tml=fake)
-        self.assertEqual((status, lines[-1][:48]), (1, "      3  links between dates that touch, in 3 fi"))
+        self.assertEqual((status, lines[-2][:48]), (1, "      3  links between dates that touch, in 3 fi"))
         self.assertEqual(self.read_text("asked").split(), ["solve", "dates", "solve", "solve", "solve", "solve", "dates", "solve"])
 
     def test_warnings_in_the_same_run(self) -> None:
@@ -229,12 +230,19 @@ class StandardInput(InquiryTest):
                 self.assertEqual((printed, lines[:6], error), (status, said(name), ""))
         printed, lines, _ = self.given(FAULT.encode(), "check", "--stdin-name", "x.xml", "-", "-")
         self.assertTrue(lines[0].startswith("x.xml:2:1: error: 10 MissingAttribute: "), lines)
-        self.assertTrue(lines[-2].startswith("1 file: "))
+        self.assertTrue(lines[-3].startswith("1 file: "))
 
     def test_what_cannot_be(self) -> None:
         self.assertEqual(
             self.given(TOO_LONG, "check", "-")[:2],
-            (2, ["-: not judged: the file has more than 4,194,304 bytes", "1 file: 0 accepted, 0 with a fault, 1 not judged"]),
+            (
+                2,
+                [
+                    "-: not judged: the file has more than 4,194,304 bytes",
+                    "1 file: 0 accepted, 0 with a fault, 1 not judged",
+                    "not looked for: probable mistakes (--lint), contradictions (--clashes)",
+                ],
+            ),
         )
         rows = [
             (("check", "--cluster", "x", "-"), "no scheduler|--cluster needs|another standard input"),

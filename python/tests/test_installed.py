@@ -89,8 +89,8 @@ class Installed(unittest.TestCase):
 
     @unittest.skipUnless(os.access(TML, os.X_OK), f"no program {TML}: build it as README.md says, or name one by TML=PROGRAM")
     def test_a_sample_is_checked(self) -> None:
-        words = (str(self.target / "bin" / "tml-corpus"), "check", "--tml", os.path.abspath(TML), SAMPLE)
-        self.assertEqual(self.run_words(*words), (0, "1 file: 1 accepted, 0 with a fault, 0 not judged\n", ""))
+        words = (str(self.target / "bin" / "tml-corpus"), "check", "--lint", "--clashes", "--tml", os.path.abspath(TML), SAMPLE)
+        self.assertEqual(self.run_words(*words), (0, "1 file: 1 accepted, 0 with a clash, 0 with a fault, 0 not judged\n", ""))
 
     @unittest.skipUnless(os.access(TML, os.X_OK), f"no program {TML}: build it as README.md says, or name one by TML=PROGRAM")
     def test_a_question_is_answered(self) -> None:

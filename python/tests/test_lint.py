@@ -295,7 +295,7 @@ class Warnings(CorpusTest):
             [line.split("[")[-1] for line in lines if ": warning: " in line], ["empty-tag]", "no-creation-time]", "unlinked-instance]"]
         )
         self.assertEqual(
-            lines[-5:],
+            lines[-6:-1],
             [
                 "1 probable mistake in 1 file",
                 "      1  empty-tag",
@@ -317,7 +317,7 @@ class Warnings(CorpusTest):
         )
         self.assertEqual(lines[1:3], ["    <TimeML>", "    ^~~~~~~~"])
         self.assertEqual(
-            lines[3:], ["1 file: 1 accepted, 0 with a fault, 0 not judged", "1 thing missing in 1 file", "      1  no-creation-time"]
+            lines[3:-1], ["1 file: 1 accepted, 0 with a fault, 0 not judged", "1 thing missing in 1 file", "      1  no-creation-time"]
         )
 
     def test_documents_with_a_fault_have_no_warnings(self) -> None:
@@ -428,7 +428,12 @@ class Baselines(CorpusTest):
         status, lines, _ = self.run_it(*words, "--write-baseline", "c")
         self.assertEqual((status, lines[-1]), (0, "1 warning written to c/known"))
         self.assertEqual(
-            self.run_it(*words, "c")[1], ["1 file: 1 accepted, 0 with a fault, 0 not judged", "1 warning of the baseline not shown"]
+            self.run_it(*words, "c")[1],
+            [
+                "1 file: 1 accepted, 0 with a fault, 0 not judged",
+                "not looked for: contradictions (--clashes)",
+                "1 warning of the baseline not shown",
+            ],
         )
         # Lines before it, and another name for the path, change nothing.
         self.write("c/d.xml", document("\n\n" + CREATED + new + old))
@@ -488,7 +493,7 @@ class Baselines(CorpusTest):
         others = (json.dumps([f"{number:05}.xml", "empty-tag", "x" * 80, 1]) + "\n" for number in range(40_000))
         self.write("known", "".join([first, *others, *own]))
         self.assertGreater(os.path.getsize(self.path("known")), DOCUMENT_LIMIT)
-        self.assertEqual(self.run_it("check", "--lint", "--baseline", "known", "d.xml")[1][1:], ["1 warning of the baseline not shown"])
+        self.assertEqual(self.run_it("check", "--lint", "--baseline", "known", "d.xml")[1][2:], ["1 warning of the baseline not shown"])
 
     def test_a_long_baseline_is_read_whole(self) -> None:
         from tml_corpus.check.baseline import NewBaseline, read_baseline

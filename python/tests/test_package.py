@@ -155,7 +155,8 @@ class Package(unittest.TestCase):
     def test_what_is_unpacked_runs(self) -> None:
         self.assertEqual(self.unpacked("tml", "drill", "3")[1].splitlines()[-1], "verified timeline")
         self.assertEqual(
-            self.unpacked("tml-corpus", "check", "samples/rates.xml"), (0, "1 file: 1 accepted, 0 with a fault, 0 not judged\n")
+            self.unpacked("tml-corpus", "check", "--lint", "--clashes", "samples/rates.xml"),
+            (0, "1 file: 1 accepted, 0 with a clash, 0 with a fault, 0 not judged\n"),
         )
         self.assertEqual(self.unpacked("tml-redundant-links", "samples/rates.xml")[0], 0)
         self.assertEqual(self.unpacked("tml-edit", "--unwrap", "SIGNAL", "samples/event.xml")[0], 0)

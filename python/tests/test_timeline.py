@@ -319,7 +319,7 @@ class NotDrawn(TimelineTest):
 
     def test_a_fault_is_that_of_check(self) -> None:
         lines = self.refused(1, document(EVENT + "<EVENT/>"))
-        self.assertEqual(lines, self.run_it("check", "d.xml")[1][:-2])
+        self.assertEqual(lines, self.run_it("check", "--quiet", "d.xml")[1])
         self.assertTrue(lines[0].startswith("d.xml:2:40: error: 10 MissingAttribute: "), lines)
 
     def test_only_what_verify_accepts_is_drawn(self) -> None:

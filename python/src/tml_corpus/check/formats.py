@@ -48,11 +48,18 @@ class WarningCounts:
         return [first, *(f"{count:7}  {name}" for name, count in kinds)] if kinds else []
 
 
-class Summary:
-    """How many files there are, and what became of them; a file counts by its first fault."""
+def not_looked_for(*, lint: bool, clashes: bool) -> list[str]:
+    """What was not asked for, in a line, so that nobody takes a summary for more than it is; nothing where both were."""
+    kinds = {"probable mistakes (--lint)": lint, "contradictions (--clashes)": clashes}
+    left_out = [kind for kind, is_wanted in kinds.items() if not is_wanted]
+    return [f"not looked for: {', '.join(left_out)}"] if left_out else []
 
-    def __init__(self, files: int) -> None:
-        self.files = files
+
+class Summary:
+    """How many files there are, and what became of them; a file counts by its first fault. Clashes were not looked for."""
+
+    def __init__(self, files: int, *, lint: bool) -> None:
+        self.files, self.lint = files, lint
         self.accepted = self.problems = self.further = self.consequences = 0
         self.first_faults: Counter[tuple[int, str]] = Counter()
         self.warnings = WarningCounts()
@@ -92,6 +99,7 @@ class Summary:
             perhaps = f", {self.consequences} of them perhaps only consequences" if self.consequences else ""
             lines.append(f"{self.further:7}  further faults of these files{perhaps}")
         lines += self.warnings.lines()
+        lines += not_looked_for(lint=self.lint, clashes=False)
         if interrupted:
             lines.append(f"interrupted: {self.judged()} of {self.files} files were looked at")
         return "".join(line + "\n" for line in lines)

@@ -4,7 +4,7 @@ from __future__ import annotations
 
 from typing import TYPE_CHECKING, NamedTuple
 
-from ..check.formats import WarningCounts
+from ..check.formats import WarningCounts, not_looked_for
 from ..check.judgement import Judgement
 from ..check.placed import PlacedNote
 from ..files.finding import counted
@@ -148,8 +148,8 @@ class ClashReport:
 class ClashSummary:
     """How many files there are, and what became of them; faults are asked about too where they are checked, as by `check --clashes`."""
 
-    def __init__(self, files: int, checked: bool = False, read_touching: bool = False) -> None:
-        self.files, self.checked, self.read_touching = files, checked, read_touching
+    def __init__(self, files: int, checked: bool = False, read_touching: bool = False, lint: bool = False) -> None:
+        self.files, self.checked, self.read_touching, self.lint = files, checked, read_touching, lint
         self.verdicts: dict[str, int] = {}
         self.first_faults: dict[tuple[int, str], int] = {}
         self.further_faults = self.further_clashes = self.changes = self.changed_files = 0
@@ -196,6 +196,7 @@ class ClashSummary:
         lines = [f"{counted(self.files, 'file')}: {', '.join(parts)}"]
         lines += [f"{number:7}  {what}" for number, what in self.counts()]
         lines += self.warnings.lines()
+        lines += not_looked_for(lint=self.lint, clashes=True) if self.checked else []
         looked_at = sum(self.verdicts.values())
         if interrupted:
             lines.append(f"interrupted: {looked_at} of {self.files} files were looked at")

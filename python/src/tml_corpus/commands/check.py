@@ -49,7 +49,7 @@ def command(run: Run, options: Options) -> int:
     if options.touching:
         raise CannotRun("--touching is about clashes: give --clashes too")
     found = run.files.search()
-    form, summary = make_format(options.format, options.explain, options.strict), Summary(len(found))
+    form, summary = make_format(options.format, options.explain, options.strict), Summary(len(found), lint=options.lint)
 
     def reported(one: Found, judgement: Judgement | None) -> str:
         if judgement is None:

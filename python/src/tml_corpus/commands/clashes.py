@@ -48,7 +48,7 @@ def show_clashes(
     """Prints what is found in the files, and answers the status. `check --clashes` says which documents are accepted too."""
     found = run.files.search()
     form = make_format(form_name, wanted.explained, run.quiet, checked, strict)
-    summary = ClashSummary(len(found), checked, read_touching=wanted.touching)
+    summary = ClashSummary(len(found), checked, read_touching=wanted.touching, lint=wanted.lint is not None)
 
     def reported(one: Found, report: ClashReport | None) -> str:
         if report is None:

@@ -24,7 +24,7 @@ def command(run: Run, options: Options) -> int:
     found, folder = run.files.search(), Folder(options.output)
     folder.prepare()
     wanted = Wanted(more=options.more, lint=chosen(run.settings.ignore, run.settings.warn), every_clash=False)
-    summary = ClashSummary(len(found), checked=True)
+    summary = ClashSummary(len(found), checked=True, lint=True)
 
     def reported(_: Found, one: Reported) -> str:
         summary.add(one.report)
