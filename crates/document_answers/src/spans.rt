@@ -50,6 +50,7 @@ fn unit_table(alloc: Global, doc: &[u8]) -> Result<Vec<u8>, Cut>
                 if push_unit(&mut table, &unit).is_err() {
                     return Err(cutter.out_of_memory());
                 }
+                cutter.take_back(unit);
             }
             Ok(None) => return Ok(table),
             Err(cut) => return Err(cut),

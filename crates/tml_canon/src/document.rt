@@ -55,9 +55,7 @@ impl<'s> Taken<'s> {
         ensures written { OnOk result (Writes self.old.writer (unit_of judged.now.unit).kind self.new.writer) }
         ensures taken { OnOk result (TakesTag self.old.resolver judged.now.tag self.new.resolver) }
     {
-        if self.writer.take(&judged.unit).is_err() {
-            return Err(Memory);
-        }
+        self.writer.take(&judged.unit)?;
         match &judged.tag {
             Some(tag) => self.resolver.take(tag),
             None => Ok(()),
@@ -85,6 +83,7 @@ fn take_all<'s>(alloc: Global, doc: &'s [u8]) -> Result<Taken<'s>, Fault>
                 if taken.take(&judged).is_err() {
                     return Err(tags.out_of_memory().kind_and_place());
                 }
+                tags.take_back(judged.unit);
             }
             Ok(None) => return Ok(taken),
             Err(fault) => return Err(fault.kind_and_place()),

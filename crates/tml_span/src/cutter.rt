@@ -8,6 +8,7 @@ use crate::bytes::clear_len;
 use crate::check::check_units;
 use crate::fault::{Cut, PlainCut, cut_of};
 use crate::references::{bad_reference_in, has_pieces};
+use crate::room::Room;
 use crate::scan::unit_at;
 use std::alloc::Global;
 use std::marker::Model;
@@ -20,6 +21,8 @@ pub struct Cutter<'s> {
     place: u32,
     /// No `&` stands from the place up to here: a unit that ends by then has no reference.
     clear: u32,
+    /// For the attributes of the next tag.
+    room: Room<'s>,
 }
 
 /// How long a unit is at least after which the next `&` is looked for: after short ones it would take longer than to look
@@ -60,6 +63,7 @@ impl<'s> Cutter<'s> {
                 source,
                 place: 0,
                 clear: 0,
+                room: Room::new(),
             }),
             Err(e) => Err(PlainCut::NotUtf8 {
                 place: e.valid_up_to() as u32,
@@ -105,7 +109,7 @@ impl<'s> Cutter<'s> {
         ensures { CutsOn self.old self.new result }
     {
         let left = self.left();
-        let Ok(found) = unit_at(alloc, self.place, left) else {
+        let Ok(found) = unit_at(&mut self.room, alloc, self.place, left) else {
             return Err(self.out_of_memory());
         };
         let Some((unit, rest)) = found else {
@@ -125,6 +129,17 @@ impl<'s> Cutter<'s> {
         self.clear = self.clear_after(end, rest);
         self.place = end;
         Ok(Some(unit))
+    }
+
+    /// Takes back a unit that was given: a later tag has its attributes in the room of these.
+    #[inline(always)]
+    pub fn take_back(&mut self, unit: Unit<'s>)
+        ensures { self.new ≡ self.old }
+    {
+        match unit {
+            Unit::StartTag { attrs, .. } | Unit::EmptyTag { attrs, .. } => self.room.keep(attrs),
+            _ => {}
+        }
     }
 
     /// What is answered out of memory: the fault of the source, where it has one, comes before that.

@@ -8,6 +8,7 @@ ghost use Rattle.tml_span.specs.View.{ReadsUnit, unit_of};
 
 use crate::bytes::text_len;
 use crate::enclosed::{comment_at, declaration_at, doctype_at};
+use crate::room::Room;
 use crate::tags::{end_tag_at, tag_at};
 use crate::{Memory, Span, Unit};
 use std::alloc::Global;
@@ -62,6 +63,7 @@ pub fn comment_or_doctype_at<'s>(place: u32, bytes: &'s [u8]) -> Option<(Unit<'s
 
 /// The unit at the start, and what follows it. There is none where no unit begins.
 pub fn unit_at<'s>(
+    room: &mut Room<'s>,
     alloc: Global,
     place: u32,
     bytes: &'s [u8],
@@ -74,7 +76,7 @@ pub fn unit_at<'s>(
         [b'<', b'/', inner @ ..] => Ok(end_tag_at(place, inner)),
         [b'<', b'!', ..] => Ok(comment_or_doctype_at(place, bytes)),
         [b'<', b'?', ..] => Ok(declaration_at(place, bytes)),
-        [b'<', inner @ ..] => tag_at(alloc, place, inner),
+        [b'<', inner @ ..] => tag_at(room, alloc, place, inner),
         [_, ..] => Ok(Some(text_or_bom_at(place, bytes))),
         [] => Ok(None),
     }

@@ -5,6 +5,7 @@ ghost use Rattle.tml_span.specs.View.{ReadsUnit, attribute_of, quote_byte};
 ghost use Rattle.tml_span.specs.Bytes as kinds;
 
 use crate::bytes::{is_name_start, name_len, value_len, white_len};
+use crate::room::Room;
 use crate::{Attr, List, Memory, Quote, Span, Unit};
 use std::alloc::Global;
 
@@ -104,18 +105,28 @@ pub fn attribute_at<'s>(place: u32, bytes: &'s [u8]) -> Option<(Attr<'s>, &'s [u
     ))
 }
 
-/// Appends the attribute. Most tags have at most two, so the first one gets room for two.
-fn push_attribute<'s>(attrs: &mut List<Attr<'s>>, attr: Attr<'s>) -> Result<(), Memory>
-    ensures { OnOk result (attrs.new ≡ attrs.old ++ attr.entry ∷ []) }
+/// The attributes and one more. With the first one they get room.
+#[inline(always)]
+fn and_attribute<'s>(
+    room: &mut Room<'s>,
+    alloc: Global,
+    attrs: List<Attr<'s>>,
+    attr: Attr<'s>,
+) -> Result<List<Attr<'s>>, Memory>
+    ensures { IfOk result (λ all. all ≡ attrs.entry ++ attr.entry ∷ []) }
 {
-    if attrs.as_slice().is_empty() {
-        attrs.reserve_exact(2)?;
-    }
-    attrs.push(attr)
+    let mut all = if attrs.as_slice().is_empty() {
+        room.take(alloc)?
+    } else {
+        attrs
+    };
+    all.push(attr)?;
+    Ok(all)
 }
 
-/// As many attributes as there are, and what follows them.
+/// As many attributes as there are, and what follows them. They lie in the room, where some was kept.
 fn attributes_at<'s>(
+    room: &mut Room<'s>,
     alloc: Global,
     place: u32,
     bytes: &'s [u8],
@@ -128,7 +139,7 @@ fn attributes_at<'s>(
     let mut at = place;
     let mut rest = bytes;
     while let Some((attr, after)) = attribute_at(at, rest) {
-        push_attribute(&mut attrs, attr)?;
+        attrs = and_attribute(room, alloc, attrs, attr)?;
         at += (rest.len() - after.len()) as u32;
         rest = after;
     }
@@ -151,6 +162,7 @@ pub fn close_at(bytes: &[u8]) -> Option<(bool, &[u8])>
 
 /// A start tag or an empty tag after its `<`, with which none of the other units begins.
 pub fn tag_at<'s>(
+    room: &mut Room<'s>,
     alloc: Global,
     place: u32,
     bytes: &'s [u8],
@@ -165,7 +177,7 @@ pub fn tag_at<'s>(
     let Some((name, mid)) = name_at(bytes) else {
         return Ok(None);
     };
-    let (attrs, after) = attributes_at(alloc, place + 1 + name.len() as u32, mid)?;
+    let (attrs, after) = attributes_at(room, alloc, place + 1 + name.len() as u32, mid)?;
     let Some((is_empty, rest)) = close_at(after_white(after)) else {
         return Ok(None);
     };

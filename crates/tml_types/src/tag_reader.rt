@@ -117,8 +117,11 @@ impl<'s> TagReader<'s> {
             };
             if let Some(tag) = begun {
                 match type_one(alloc, tag.name, tag.of) {
-                    Ok(None) => {}
-                    Ok(Some(typed)) => return Ok(Some(typed)),
+                    Ok(None) => self.units.take_back(unit),
+                    Ok(Some(typed)) => {
+                        self.units.take_back(unit);
+                        return Ok(Some(typed));
+                    }
                     Err(fault) => return Err(self.fault_with(alloc, fault)),
                 }
             }
@@ -156,6 +159,14 @@ impl<'s> TagReader<'s> {
             Ok(tag) => Ok(Some(Judged { unit, tag })),
             Err(fault) => Err(self.fault_with(alloc, fault)),
         }
+    }
+
+    /// Takes back a unit that was given: a later tag has its attributes in the room of these.
+    #[inline(always)]
+    pub fn take_back(&mut self, unit: Unit<'s>)
+        ensures { self.new ≡ self.old }
+    {
+        self.units.take_back(unit);
     }
 
     /// What is answered out of memory: the fault of the cut, where the source has one, comes before that.

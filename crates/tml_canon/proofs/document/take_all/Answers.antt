@@ -3,8 +3,10 @@ use Rattle.tml_span.specs.Faults.{HasCutFault}
 use Rattle.tml_span.specs.View.{unit_of}
 use Rattle.tml_tree.specs.Rules.{History}
 use Rattle.tml_types.specs.TagReader.{typed_with}
+use Rattle.tml_types.specs.declared.tag_reader.TagReader.{TagReader}
 use Rattle.tml_types.proofs.Walks.{when_ok}
 use Rattle.tml_accept.proofs.FirstOf.{of_cut, of_source}
+use Rattle.tml_canon.specs.Taking.{HasTakenUnits}
 use Rattle.tml_canon.specs.Writing.{HasWrittenUnits}
 use Rattle.tml_canon.proofs.Taking.{may_take, tag_taken}
 use Rattle.tml_canon.proofs.WrittenUnits.{units_more}
@@ -27,41 +29,13 @@ loop-judged-preserved c =
     let judged = c.in-Ok-Some.judged in
     let gives = rw c.in-Ok-Some.field-0-is at c.in-Ok-Some.ensures.gives in
     let more = gives.1 c.args.doc.now so_far.us so_far.typed so_far.given in
-    record {
+    subst (λ (r : TagReader). HasTakenUnits c.args.doc.now r c.take.new.self) (sym c.take_back.ensures) (record {
       us = so_far.us ++ unit_of judged.unit ∷ [];
       typed = typed_with so_far.typed judged;
       given = more.0;
       taken = tag_taken so_far.typed judged.tag _ _ so_far.taken more.1 (when_ok c.take.result c.if-is_err.ensures.value c.take.ensures.taken);
       written = units_more so_far.us (unit_of judged.unit) _ _ _ _ gives.0 so_far.written (when_ok c.take.result c.if-is_err.ensures.value c.take.ensures.written);
-    }
-
-pub loop-judged-preserved-else-is_err : goal.loop-judged-preserved-else-is_err
-loop-judged-preserved-else-is_err c =
-    let so_far = c.loop-judged.invariant in
-    let judged = c.in-Ok-Some.judged in
-    let gives = rw c.in-Ok-Some.field-0-is at c.in-Ok-Some.ensures.gives in
-    let more = gives.1 c.args.doc.now so_far.us so_far.typed so_far.given in
-    record {
-      us = so_far.us ++ unit_of judged.unit ∷ [];
-      typed = typed_with so_far.typed judged;
-      given = more.0;
-      taken = tag_taken so_far.typed judged.tag _ _ so_far.taken more.1 (when_ok c.take.result c.if-is_err.ensures.value c.take.ensures.taken);
-      written = units_more so_far.us (unit_of judged.unit) _ _ _ _ gives.0 so_far.written (when_ok c.take.result c.if-is_err.ensures.value c.take.ensures.written);
-    }
-
-pub loop-judged-preserved-else-is_err-2 : goal.loop-judged-preserved-else-is_err-2
-loop-judged-preserved-else-is_err-2 c =
-    let so_far = c.loop-judged.invariant in
-    let judged = c.in-Ok-Some.judged in
-    let gives = rw c.in-Ok-Some.field-0-is at c.in-Ok-Some.ensures.gives in
-    let more = gives.1 c.args.doc.now so_far.us so_far.typed so_far.given in
-    record {
-      us = so_far.us ++ unit_of judged.unit ∷ [];
-      typed = typed_with so_far.typed judged;
-      given = more.0;
-      taken = tag_taken so_far.typed judged.tag _ _ so_far.taken more.1 (when_ok c.take.result c.if-is_err.ensures.value c.take.ensures.taken);
-      written = units_more so_far.us (unit_of judged.unit) _ _ _ _ gives.0 so_far.written (when_ok c.take.result c.if-is_err.ensures.value c.take.ensures.written);
-    }
+    })
 
 pub returns-in-Ok-None-clause-ok : goal.returns-in-Ok-None-clause-ok
 returns-in-Ok-None-clause-ok c =

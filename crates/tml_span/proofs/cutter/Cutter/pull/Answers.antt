@@ -1,10 +1,8 @@
-use Rattle.std.proofs.Common.{◌≡◌, ◌+◌, ◌-◌, drop, length, refl, sym, ap, subst, ◌∙◌, arith, Some, None, Ok}
+use Rattle.std.proofs.Common.{◌≡◌, ◌+◌, ◌-◌, drop, length, sym, ap, subst, ◌∙◌, arith, Some, None, Ok}
 use Rattle.std.proofs.lemmas.Bool.Decides.{nat_tests}
-use Rattle.tml_span.specs.Cutter.{CutsOn, IsClear}
+use Rattle.tml_span.specs.Cutter.{CutsOn}
 use Rattle.tml_span.specs.Reader.{Reading}
 use Rattle.tml_span.specs.Faults.{HasBadMarkup, HasBadReference}
-use Rattle.tml_span.specs.Slices.{UnitIsIn}
-use Rattle.tml_span.specs.View.{unit_of}
 use Rattle.tml_span.proofs.Clear.{clear_later}
 use Rattle.tml_span.proofs.Placing.{found_placed}
 use Rattle.tml_span.proofs.Pulling.{at, gives_none, goes_further, here_in, left_next, moves_on, no_unit, unit_is_bad}
@@ -14,7 +12,7 @@ pub returns-then-is_empty : goal.returns-then-is_empty
 returns-then-is_empty c =
     let r = at c.self.inside.source.now c.self.inside.place in
     let is : c.left-left.result.now ≡ drop r.place r.source = c.left-left.ensures ∙ ap (λ (q : Reading). drop q.place q.source) (sym c.self.view_is) in
-    subst (λ (q : Reading). CutsOn q q (Ok None)) c.self.view_is (gives_none r c.self.invariant.0 c.left-left.result.now is (grind (arith, nat_tests)))
+    subst (λ (q : Reading). CutsOn q r (Ok None)) c.self.view_is (gives_none r c.self.invariant.0 c.left-left.result.now is (grind (arith, nat_tests)))
 
 pub returns-in_default-found : goal.returns-in_default-found
 returns-in_default-found c =
@@ -22,7 +20,7 @@ returns-in_default-found c =
     let is : c.left-left.result.now ≡ drop r.place r.source = c.left-left.ensures ∙ ap (λ (q : Reading). drop q.place q.source) (sym c.self.view_is) in
     let stops = rw c.in_default-found.is at c.in-Ok.ensures.unit in
     let fault = no_unit r c.self.invariant.0 c.left-left.result.now is (λ z. grind (arith, nat_tests, z)) stops in
-    (refl, subst (λ (q : Reading). HasBadMarkup q.source c.self.inside.place) c.self.view_is fault)
+    (c.self.view_is, subst (λ (q : Reading). HasBadMarkup q.source c.self.inside.place) c.self.view_is fault)
 
 pub is_clear-requires-clause-order : goal.is_clear-requires-clause-order
 is_clear-requires-clause-order c = found_placed _ _ _ _ (rw c.in-Some.is at c.in-Ok.ensures.unit)
@@ -32,7 +30,7 @@ is_clear-requires-clause-inside c =
     let r = at c.self.inside.source.now c.self.inside.place in
     let is : c.left-left.result.now ≡ drop r.place r.source = c.left-left.ensures ∙ ap (λ (q : Reading). drop q.place q.source) (sym c.self.view_is) in
     let found = rw c.in-Some.is at c.in-Ok.ensures.unit in
-    subst (λ (q : Reading). UnitIsIn q.source (unit_of c.in-Some.unit)) c.self.view_is (here_in r c.self.invariant.0 c.left-left.result.now is c.in-Some.rest.now _ found)
+    here_in r c.self.invariant.0 c.left-left.result.now is c.in-Some.rest.now _ found
 
 pub bad_reference_in-requires : goal.bad_reference_in-requires
 bad_reference_in-requires c = found_placed _ _ _ _ (rw c.in-Some.is at c.in-Ok.ensures.unit)
@@ -44,7 +42,7 @@ returns-in-Some-bad_reference_in c =
     let found = rw c.in-Some.is at c.in-Ok.ensures.unit in
     let place = c.in-Some-bad_reference_in.place in
     let fault = unit_is_bad r c.self.invariant.0 c.left-left.result.now is c.in-Some.rest.now _ found place (rw c.in-Some-bad_reference_in.is at c.bad_reference_in.ensures) in
-    (refl, subst (λ (q : Reading). HasBadReference q.source place) c.self.view_is fault)
+    (c.self.view_is, subst (λ (q : Reading). HasBadReference q.source place) c.self.view_is fault)
 
 pub clear_after-self-inside-requires-clause-rest : goal.clear_after-self-inside-requires-clause-rest
 clear_after-self-inside-requires-clause-rest c =
@@ -52,11 +50,10 @@ clear_after-self-inside-requires-clause-rest c =
     let is : c.left-left.result.now ≡ drop r.place r.source = c.left-left.ensures ∙ ap (λ (q : Reading). drop q.place q.source) (sym c.self.view_is) in
     let found = rw c.in-Some.is at c.in-Ok.ensures.unit in
     let after = c.in-Some.rest.now in
-    let end = r.place + (length c.left-left.result.now - length after) in
-    sym (left_next r c.self.invariant.0 c.left-left.result.now is after _ found) ∙ ap (λ (q : Reading). drop end q.source) c.self.view_is
+    sym (left_next r c.self.invariant.0 c.left-left.result.now is after _ found)
 
-pub invariant_of-self : goal.invariant_of-self
-invariant_of-self c =
+pub invariant_of-self-then-is_clear : goal.invariant_of-self-then-is_clear
+invariant_of-self-then-is_clear c =
     let r = at c.self.inside.source.now c.self.inside.place in
     let is : c.left-left.result.now ≡ drop r.place r.source = c.left-left.ensures ∙ ap (λ (q : Reading). drop q.place q.source) (sym c.self.view_is) in
     let found = rw c.in-Some.is at c.in-Ok.ensures.unit in
@@ -75,15 +72,15 @@ returns-then-is_clear c =
     let moves = moves_on r c.self.invariant.0 c.left-left.result.now is after _ found (c.is_clear.ensures c.if-is_clear.true) (rw c.in-Some.is at c.in-Ok.ensures.shorter) in
     subst (λ (q : Reading). CutsOn q new (Ok (Some c.in-Some.unit))) c.self.view_is moves
 
-pub invariant_of-self-2 : goal.invariant_of-self-2
-invariant_of-self-2 c =
+pub invariant_of-self-4 : goal.invariant_of-self-4
+invariant_of-self-4 c =
     let r = at c.self.inside.source.now c.self.inside.place in
     let is : c.left-left.result.now ≡ drop r.place r.source = c.left-left.ensures ∙ ap (λ (q : Reading). drop q.place q.source) (sym c.self.view_is) in
     let found = rw c.in-Some.is at c.in-Ok.ensures.unit in
     let after = c.in-Some.rest.now in
     let end = r.place + (length c.left-left.result.now - length after) in
     let further = goes_further r c.self.invariant.0 c.left-left.result.now is after _ found (rw c.in_default-bad_reference_in.is at c.bad_reference_in.ensures) (rw c.in-Some.is at c.in-Ok.ensures.shorter) in
-    (further, subst (λ (q : Reading). IsClear q.source end c.clear_after-self-inside.result) (sym c.self.view_is) c.clear_after-self-inside.ensures)
+    (further, c.clear_after-self-inside.ensures)
 
 pub returns : goal.returns
 returns c =
