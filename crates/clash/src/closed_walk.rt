@@ -33,9 +33,7 @@ impl ClosedWalk {
         ensures closed { IfOk result (IsMarkedWalk net.now) }
         ensures walk { IfOk result (λ closed. closed.walk ≡ walk) }
     {
-        let Ok(mut over) = vec![in alloc; false; net.links() as usize] else {
-            return Err(Memory);
-        };
+        let mut over = vec![in alloc; false; net.links() as usize]?;
         mark_steps(&mut over, walk.as_slice());
         let orders = orders_of(alloc, net, walk.as_slice())?;
         Ok(ClosedWalk { walk, over, orders })
@@ -56,9 +54,7 @@ impl ClosedWalk {
         ensures some { IfOk result (λ found. IfSome found (IsSpare net.now (Kept self.now.over.items) omitted)) }
         ensures none { IfOk result (λ found. IfNone found (turns ≡ u32.MAX → IsSpared net.now (Kept self.now.over.items) omitted → ⊥)) }
     {
-        let Ok(mut ranks) = vec![in alloc; 0u32; 2 * net.intervals() as usize] else {
-            return Err(Memory);
-        };
+        let mut ranks = vec![in alloc; 0u32; 2 * net.intervals() as usize]?;
         if settle(self.orders.as_slice(), fixed, omitted, &mut ranks, turns) {
             Ok(Some(Ranks::from_vec(ranks)))
         } else {

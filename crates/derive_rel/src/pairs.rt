@@ -75,9 +75,7 @@ pub fn masks(alloc: Global) -> Result<Vec<Mask>, Memory>
 {
     let mut masks = Vec::new(alloc);
     for rel in Rel::all() {
-        if masks.push(Mask::of(*rel)).is_err() {
-            return Err(Memory);
-        }
+        masks.push(Mask::of(*rel))?;
     }
     Ok(masks)
 }

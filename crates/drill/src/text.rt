@@ -26,10 +26,7 @@ pub fn drill_text(alloc: Global, n: u32) -> Result<List<u8>, Memory>
     requires few { n ≤ max_intervals }
     ensures { IfOk result (λ text. text ≡ texts.drill_document n) }
 {
-    match document(alloc, n) {
-        Ok(text) => Ok(List::from_vec(text)),
-        Err(AllocError) => Err(Memory),
-    }
+    Ok(List::from_vec(document(alloc, n)?))
 }
 
 /// The text of the document of drill `n`.

@@ -12,7 +12,6 @@ ghost use Rattle.runs.specs.View.{finding_status, status_of, text_of};
 use crate::malformed::malformed_answer;
 use crate::role::{EVIDENCE, SECOND};
 use evidence_format::{Bodies, ReadEvidence, read_bodies, write_both};
-use net_core::Memory;
 use runs::{Answer, Reply, Status, read};
 use std::alloc::{AllocError, Global};
 use tml_io::Inputs;
@@ -80,8 +79,6 @@ fn joined(alloc: Global, first: Bodies<'_>, second: &[u8]) -> Result<Answer, All
         }
         Err(ReadEvidence::Memory) => return Err(AllocError),
     };
-    match write_both(alloc, first, more) {
-        Ok(text) => Ok(Answer::done(text.into_vec())),
-        Err(Memory) => Err(AllocError),
-    }
+    let text = write_both(alloc, first, more)?;
+    Ok(Answer::done(text.into_vec()))
 }

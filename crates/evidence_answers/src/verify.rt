@@ -11,7 +11,6 @@ use answers::{JudgedQuery, push_numbered, push_prefix};
 use evidence_check::{Reason, RefusedClaim};
 use evidence_format::ReadEvidence;
 use net_build::net_of;
-use net_core::Memory;
 use runs::{Answer, Finding};
 use std::alloc::{AllocError, Global};
 use tml_refs::Document;
@@ -44,10 +43,7 @@ pub fn verdict(alloc: Global, document: &Document<'_>, text: &[u8]) -> Result<An
     requires { length text.now ≤ max_evidence }
     ensures { IfOk result (λ answer. OfVerify document.now text.now (finding_status answer.finding) answer.text.items) }
 {
-    let net = match net_of(alloc, document) {
-        Ok(net) => net,
-        Err(Memory) => return Err(AllocError),
-    };
+    let net = net_of(alloc, document)?;
     match judged_claims(alloc, document, &net, text) {
         Ok(judged) => match judged.refused {
             None => Ok(Answer::done(judged.lines)),

@@ -40,10 +40,8 @@ impl Bundle {
         ensures { IfOk result (λ bundle. bundle ≡ evidence ∷ []) }
     {
         let mut claims = Vec::new(alloc);
-        match claims.push(evidence) {
-            Ok(()) => Ok(Bundle { claims }),
-            Err(_) => Err(Memory),
-        }
+        claims.push(evidence)?;
+        Ok(Bundle { claims })
     }
 
     /// The bundle of the claims of a `Vec`. It takes no memory.
@@ -89,10 +87,8 @@ impl Bundle {
         ensures err { OnErr result (self.new ≡ self.old) }
     {
         let mut claims = other.claims;
-        match self.claims.append(&mut claims) {
-            Ok(()) => Ok(()),
-            Err(_) => Err(Memory),
-        }
+        self.claims.append(&mut claims)?;
+        Ok(())
     }
 }
 

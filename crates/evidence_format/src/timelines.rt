@@ -65,9 +65,7 @@ impl Timelines {
     {
         let mut list = List::new(alloc);
         for k in 0..self.count() {
-            let Ok(ranks) = Vec::from_slice(alloc, self.timeline(k)) else {
-                return Err(Memory);
-            };
+            let ranks = Vec::from_slice(alloc, self.timeline(k))?;
             list.push(Ranks::from_vec(ranks))?;
         }
         Ok(list)

@@ -25,10 +25,7 @@ pub fn write_evidence(alloc: Global, evidence: &Evidence) -> Result<List<u8>, Me
     requires { IsWellFormed (plain evidence.now) }
     ensures { IfOk result (λ out. IsText (plain evidence.now) out) }
 {
-    match text_bytes(alloc, evidence) {
-        Ok(out) => Ok(List::from_vec(out)),
-        Err(_) => Err(Memory),
-    }
+    Ok(List::from_vec(text_bytes(alloc, evidence)?))
 }
 
 /// The text of version 2 of one claim, which is well-formed evidence.
@@ -40,10 +37,7 @@ pub fn write_claim(alloc: Global, evidence: &Evidence) -> Result<List<u8>, Memor
     requires { IsWellFormed (plain evidence.now) }
     ensures { IfOk result (λ out. IsClaimText (plain evidence.now) out) }
 {
-    match bundle_bytes(alloc, slice::from_ref(evidence)) {
-        Ok(out) => Ok(List::from_vec(out)),
-        Err(_) => Err(Memory),
-    }
+    Ok(List::from_vec(bundle_bytes(alloc, slice::from_ref(evidence))?))
 }
 
 /// The text of version 2 of well-formed claims.
@@ -55,10 +49,7 @@ pub fn write_bundle(alloc: Global, bundle: &Bundle) -> Result<List<u8>, Memory>
     requires { All IsWellFormed (map plain bundle.now) }
     ensures { IfOk result (λ out. IsBundleText (map plain bundle.now) out) }
 {
-    match bundle_bytes(alloc, bundle.as_slice()) {
-        Ok(out) => Ok(List::from_vec(out)),
-        Err(_) => Err(Memory),
-    }
+    Ok(List::from_vec(bundle_bytes(alloc, bundle.as_slice())?))
 }
 
 /// The text of version 2 of the claims with these bodies.
@@ -69,10 +60,7 @@ pub fn write_bundle(alloc: Global, bundle: &Bundle) -> Result<List<u8>, Memory>
 pub fn write_bodies(alloc: Global, bodies: Bodies<'_>) -> Result<List<u8>, Memory>
     ensures { IfOk result (λ out. (es : ListOf PlainEvidence) → AreClaims es → AreBodies es bodies.entry → IsBundleText es out) }
 {
-    match joined_bytes(alloc, bodies.count, bodies.text, b"") {
-        Ok(out) => Ok(List::from_vec(out)),
-        Err(_) => Err(Memory),
-    }
+    Ok(List::from_vec(joined_bytes(alloc, bodies.count, bodies.text, b"")?))
 }
 
 /// The text of version 2 of the claims with these bodies, and after them those with the other ones.
@@ -84,10 +72,7 @@ pub fn write_both(alloc: Global, first: Bodies<'_>, second: Bodies<'_>) -> Resul
     requires { first.count + second.count < 2 ^ 32 }
     ensures { IfOk result (λ out. (es ds : ListOf PlainEvidence) → AreClaims (es ++ ds) → AreBodies es first.entry → AreBodies ds second.entry → IsBundleText (es ++ ds) out) }
 {
-    match joined_bytes(alloc, first.count + second.count, first.text, second.text) {
-        Ok(out) => Ok(List::from_vec(out)),
-        Err(_) => Err(Memory),
-    }
+    Ok(List::from_vec(joined_bytes(alloc, first.count + second.count, first.text, second.text)?))
 }
 
 /// The text of version 2 of this number of claims, by the bodies of the first ones and those of the others.

@@ -49,9 +49,7 @@ impl Walk {
         ensures ok { OnOk result (self.new ≡ self.old ++ step ∷ []) }
         ensures err { OnErr result (self.new ≡ self.old) }
     {
-        match self.steps.push(step) {
-            Ok(()) => Ok(()),
-            Err(_) => Err(Memory),
-        }
+        self.steps.push(step)?;
+        Ok(())
     }
 }

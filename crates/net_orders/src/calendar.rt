@@ -85,10 +85,8 @@ fn push_order(upper: Date, lower: Date, orders: &mut Vec<Atom>) -> Result<(), Me
     let Some(order) = order_of(upper, lower) else {
         return Ok(());
     };
-    match orders.push(order) {
-        Ok(()) => Ok(()),
-        Err(_) => Err(Memory),
-    }
+    orders.push(order)?;
+    Ok(())
 }
 
 /// Whether a point has this number on both sides.

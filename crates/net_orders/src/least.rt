@@ -28,9 +28,7 @@ pub fn least_timeline(alloc: Global, net: &Net) -> Result<Option<Ranks>, Memory>
     let fixed = fixed_orders(alloc, net)?;
     let orders = all_orders(alloc, net, &fixed)?;
     let sequence = sequence_of(alloc, points, &orders)?;
-    let Ok(mut ranks) = vec![in alloc; 0u32; points as usize] else {
-        return Err(Memory);
-    };
+    let mut ranks = vec![in alloc; 0u32; points as usize]?;
     if raise_in_turns(&mut ranks, &orders, &sequence, TURNS) {
         Ok(Some(Ranks::from_vec(ranks)))
     } else {

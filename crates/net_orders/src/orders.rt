@@ -103,9 +103,7 @@ pub fn all_orders(alloc: Global, net: &Net, fixed: &[Atom]) -> Result<Vec<Atom>,
     ensures in_range { IfOk result (λ orders. AreInRange (points net.now) orders.items) }
     ensures exact { IfOk result (λ orders. (t : Timeline) → SatisfiesAll orders.items t ↔ Fits net.now t) }
 {
-    let Ok(mut orders) = Vec::from_slice(alloc, fixed) else {
-        return Err(Memory);
-    };
+    let mut orders = Vec::from_slice(alloc, fixed)?;
     for link in 0..net.links() {
         push_atoms(&mut orders, atoms_of_link(net, link))?;
     }

@@ -55,9 +55,7 @@ fn settle_soon(
 ) -> Result<bool, Memory>
     requires { AreInRange points orders.now }
 {
-    let Ok(mut ranks) = vec![in alloc; 0u32; points] else {
-        return Err(Memory);
-    };
+    let mut ranks = vec![in alloc; 0u32; points]?;
     Ok(raise_in_turns(&mut ranks, orders, sequence, TURNS))
 }
 

@@ -18,7 +18,7 @@ use drill::drill_text;
 use evidence_answers::verdict;
 use itoa::Buffer;
 use net_build::net_of;
-use net_core::{MAX_INTERVALS, Memory, Ranks};
+use net_core::{MAX_INTERVALS, Ranks};
 use runs::{Answer, Finding};
 use std::alloc::{AllocError, Global};
 use timeline::least;
@@ -62,9 +62,7 @@ pub fn drill_summary(alloc: Global, n: u32) -> Result<Answer, AllocError>
     requires { IsDrill n }
     ensures { IfOk result (λ answer. OfDrill n (finding_status answer.finding) answer.text.items) }
 {
-    let Ok(doc) = drill_text(alloc, n) else {
-        return Err(AllocError);
-    };
+    let doc = drill_text(alloc, n)?;
     let document = match accept(alloc, doc.as_slice()) {
         Ok(document) => document,
         Err(None) => return Err(AllocError),
@@ -86,21 +84,14 @@ fn of_document(
     requires contents { document.now ≡ drill_contents n }
     ensures { IfOk result (λ answer. OfDrill n (finding_status answer.finding) answer.text.items) }
 {
-    let net = match net_of(alloc, document) {
-        Ok(net) => net,
-        Err(Memory) => return Err(AllocError),
-    };
+    let net = net_of(alloc, document)?;
     let table = match close(alloc, &net) {
         Ok(table) => table,
         Err(CloseFault::Clash(_)) => unreachable!(),
         Err(CloseFault::Memory) => return Err(AllocError),
     };
-    let Ok(ranks) = least(alloc, &table) else {
-        return Err(AllocError);
-    };
-    let Ok(rows) = rows(alloc, &table) else {
-        return Err(AllocError);
-    };
+    let ranks = least(alloc, &table)?;
+    let rows = rows(alloc, &table)?;
     let figures = Figures {
         drill: n,
         bytes,

@@ -63,9 +63,7 @@ fn relations_text(
     ensures { IfOk result (λ text. (all : ListOf RowOf) × AreRows table.now all × (text.items ≡ flat_map (row_line document.now) all)) }
 {
     let names = names_of(alloc, document)?;
-    let Ok(rows) = rows(alloc, table) else {
-        return Err(AllocError);
-    };
+    let rows = rows(alloc, table)?;
     let mut start = LineStart::new(alloc);
     let mut text = Vec::new(alloc);
     for row in rows.as_slice() {

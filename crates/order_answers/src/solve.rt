@@ -10,7 +10,7 @@ use answers::DocumentQuery;
 use evidence_format::Evidence;
 use net_answers::{NetQuery, answer_by_closure, evidence_text};
 use net_build::net_of;
-use net_core::{MAX_INTERVALS, Memory, Net, Ranks};
+use net_core::{MAX_INTERVALS, Net, Ranks};
 use net_orders::least_timeline;
 use order_closure::Closed;
 use runs::Answer;
@@ -64,10 +64,9 @@ fn text_of_ranks(alloc: Global, net: &Net) -> Result<Option<Vec<u8>>, AllocError
     ensures { IfOk result (λ found. IfSome found (λ text. ShowsTimeline net.now text.items)) }
 {
     prove!(net.intervals() <= MAX_INTERVALS);
-    match least_timeline(alloc, net) {
-        Ok(Some(ranks)) => Ok(Some(timeline_text(alloc, ranks)?)),
-        Ok(None) => Ok(None),
-        Err(Memory) => Err(AllocError),
+    match least_timeline(alloc, net)? {
+        Some(ranks) => Ok(Some(timeline_text(alloc, ranks)?)),
+        None => Ok(None),
     }
 }
 
@@ -77,10 +76,7 @@ fn least_text(alloc: Global, table: &Closed) -> Result<Vec<u8>, AllocError>
     requires few { table.now.points ≤ max_points }
     ensures { IfOk result (λ text. IsLeastText table.now text.items) }
 {
-    match least(alloc, table) {
-        Ok(ranks) => timeline_text(alloc, ranks),
-        Err(Memory) => Err(AllocError),
-    }
+    timeline_text(alloc, least(alloc, table)?)
 }
 
 /// The text of a timeline of so few and so small ranks.

@@ -7,7 +7,7 @@ ghost use Rattle.std.specs.Prelude.{IfOk, OnOk, length, ◌%◌, ◌*◌, ◌++�
 use answers::{DocumentQuery, push_numbered, unknown_name};
 use evidence_format::push_timeline;
 use net_answers::{NetQuery, answer_of_net};
-use net_core::{Memory, Net};
+use net_core::Net;
 use order_closure::{Closed, MAX_TABLE_POINTS};
 use runs::Answer;
 use std::alloc::{AllocError, Global};
@@ -75,10 +75,7 @@ fn items_text(alloc: Global, table: &Closed, a: u32, b: u32) -> Result<Vec<u8>, 
 {
     // so few that their number can stand in a text
     prove!(table.points() <= MAX_TABLE_POINTS);
-    let items = match possible(alloc, table, a, b) {
-        Ok(items) => items,
-        Err(Memory) => return Err(AllocError),
-    };
+    let items = possible(alloc, table, a, b)?;
     let mut text = Vec::new(alloc);
     push_numbered(&mut text, b"possible ", items.as_slice().len() as u64)?;
     for item in items.as_slice() {

@@ -4,7 +4,6 @@ ghost use Rattle.seconds_format.specs.Texts.{IsSecondsText};
 ghost use Rattle.std.specs.Prelude.{IfOk, ◌≡◌};
 
 use answers::DocumentQuery;
-use net_core::Memory;
 use runs::{Answer, Finding};
 use std::alloc::{AllocError, Global};
 use tml_refs::Document;
@@ -41,11 +40,6 @@ fn text_answer(
     ensures finding { IfOk result (λ answer. answer.finding ≡ finding) }
     ensures text { IfOk result (λ answer. IsSecondsText (evidence_of evidence.now) answer.text.items) }
 {
-    match write_seconds(alloc, evidence) {
-        Ok(text) => Ok(Answer {
-            finding,
-            text: text.into_vec(),
-        }),
-        Err(Memory) => Err(AllocError),
-    }
+    let text = write_seconds(alloc, evidence)?.into_vec();
+    Ok(Answer { finding, text })
 }

@@ -21,10 +21,7 @@ use std::alloc::{AllocError, Global};
 pub fn write_seconds(alloc: Global, evidence: &SecondsEvidence) -> Result<List<u8>, Memory>
     ensures { IfOk result (λ out. IsSecondsText (evidence_of evidence.now) out) }
 {
-    match text_bytes(alloc, evidence) {
-        Ok(out) => Ok(List::from_vec(out)),
-        Err(_) => Err(Memory),
-    }
+    Ok(List::from_vec(text_bytes(alloc, evidence)?))
 }
 
 fn text_bytes(alloc: Global, evidence: &SecondsEvidence) -> Result<Vec<u8>, AllocError>

@@ -48,9 +48,7 @@ fn closed_trail(
     ensures { IfOk result (λ found. MatchOption found (IsTooLow distances.now.seconds from → ⊥) (λ trail. (p : ℕ) × IsClosedTrail edges.now distances.now trail.items p)) }
 {
     let mut trail = Vec::new(alloc);
-    let Ok(mut places) = vec![in alloc; None; distances.len()] else {
-        return Err(Memory);
-    };
+    let mut places = vec![in alloc; None; distances.len()]?;
     let mut point = from;
     while let Some(number) = distances.predecessor(point) {
         if let Some(first) = places[point as usize] {
@@ -58,9 +56,7 @@ fn closed_trail(
             return Ok(Some(rest));
         }
         places[point as usize] = Some(trail.len());
-        if trail.push(number).is_err() {
-            return Err(Memory);
-        }
+        trail.push(number)?;
         point = from_of(edges, number);
     }
     Ok(None)
@@ -79,7 +75,7 @@ fn rest_of(alloc: Global, numbers: &[usize], first: usize) -> Result<Vec<usize>,
     requires { first ≤ length numbers.now }
     ensures { IfOk result (λ rest. rest.items ≡ drop first numbers.now) }
 {
-    Vec::from_slice(alloc, &numbers[first..]).map_err(|_| Memory)
+    Ok(Vec::from_slice(alloc, &numbers[first..])?)
 }
 
 /// The lines of edges.

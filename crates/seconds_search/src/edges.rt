@@ -123,5 +123,6 @@ fn push_line(edges: &mut Vec<Edge>, timed: &Timed, line: Line) -> Result<(), Mem
     let Some(constraint) = constraint_of(timed, line) else {
         return Ok(());
     };
-    edges.push(Edge { line, constraint }).map_err(|_| Memory)
+    edges.push(Edge { line, constraint })?;
+    Ok(())
 }

@@ -99,7 +99,8 @@ impl Search {
         ensures same { OnOk result (self.new ≡ record self.old { path = self.new.path }) }
         ensures path { OnOk result (self.new.path.items ≡ self.old.path.items ++ point ∷ []) }
     {
-        self.path.push(point).map_err(|_| Memory)
+        self.path.push(point)?;
+        Ok(())
     }
 }
 

@@ -32,9 +32,7 @@ pub fn ranked(alloc: Global, closed: &Closed) -> Result<Vec<u32>, Memory>
         → slice_index ranks.items p < closed.now.points) }
 {
     let turns = in_turn(alloc, closed)?;
-    let Ok(mut ranks) = vec![in alloc; 0u32; closed.points() as usize] else {
-        return Err(Memory);
-    };
+    let mut ranks = vec![in alloc; 0u32; closed.points() as usize]?;
     rank_all(closed, &turns, &mut ranks);
     Ok(ranks)
 }

@@ -26,10 +26,7 @@ use tml_tree::{Node, Tag, TagTree};
 pub fn canon(alloc: Global, tree: &TagTree<'_>) -> Result<List<u8>, Memory>
     ensures { IfOk result (λ text. (root : PlainNode) × IsTreeOf tree.now root × (text ≡ spec.canonical_text root)) }
 {
-    match text_of(alloc, tree.root()) {
-        Ok(text) => Ok(List::from_vec(text)),
-        Err(AllocError) => Err(Memory),
-    }
+    Ok(List::from_vec(text_of(alloc, tree.root())?))
 }
 
 /// The canonical text of a root.

@@ -26,9 +26,7 @@ impl Graph {
     {
         let points = 2 * net.intervals();
         let orders = orders_of(alloc, net)?;
-        let Ok(onward) = Index::new(alloc, orders, End::From, points) else {
-            return Err(Memory);
-        };
+        let onward = Index::new(alloc, orders, End::From, points)?;
         let back = by_point(alloc, onward.items(), End::To, points)?;
         Ok(Graph { onward, back })
     }
@@ -92,8 +90,6 @@ fn push_link(orders: &mut Vec<Order>, net: &Net, link: u32) -> Result<(), Memory
 fn push_order(orders: &mut Vec<Order>, atom: Atom, link: Option<u32>) -> Result<(), Memory>
     ensures { OnOk result (AddsOrders (λ order. order ≡ record { atom = atom; link = link }) orders.old.items orders.new.items) }
 {
-    match orders.push(Order { atom, link }) {
-        Ok(()) => Ok(()),
-        Err(_) => Err(Memory),
-    }
+    orders.push(Order { atom, link })?;
+    Ok(())
 }

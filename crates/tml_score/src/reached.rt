@@ -36,9 +36,7 @@ impl ReachedPoints {
         requires { room ≤ max_points }
         ensures { IfOk result (λ reached. reached ≡ record { points = []; room = room }) }
     {
-        let Ok(places) = vec![in alloc; 0; room as usize] else {
-            return Err(Memory);
-        };
+        let places = vec![in alloc; 0; room as usize]?;
         Ok(ReachedPoints {
             points: Vec::new(alloc),
             places,

@@ -59,9 +59,7 @@ fn marks(alloc: Global, net: &Net, table: &Closed, graph: &Graph) -> Result<Vec<
     requires graph { IsGraphOf net.now graph.now }
     ensures { IfOk result (λ keep. AreGoneOver net.now (length net.now.links) keep.items) }
 {
-    let Ok(mut keep) = vec![in alloc; true; net.links() as usize] else {
-        return Err(Memory);
-    };
+    let mut keep = vec![in alloc; true; net.links() as usize]?;
     let mut sides = Sides {
         onward: ReachedPoints::new(alloc, table.points())?,
         back: ReachedPoints::new(alloc, table.points())?,

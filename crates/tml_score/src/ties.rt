@@ -86,8 +86,8 @@ fn ties_of(alloc: Global, kept: &KeptLinks<'_>) -> Result<Vec<Order>, Memory>
     let mut ties = Vec::new(alloc);
     for order in kept.graph.onward.items() {
         let apart = kept.table.cell(order.atom.to, order.atom.from) == Cell::Free;
-        if !apart && ties.push(*order).is_err() {
-            return Err(Memory);
+        if !apart {
+            ties.push(*order)?;
         }
     }
     Ok(ties)

@@ -58,12 +58,8 @@ impl Tree {
         ensures turns { IfOk result (λ tree. length tree.turns.items ≡ points) }
         ensures in_use { IfOk result (λ tree. length tree.in_use.items ≡ links) }
     {
-        let Ok(turns) = vec![in alloc; 0usize; points as usize] else {
-            return Err(Memory);
-        };
-        let Ok(in_use) = vec![in alloc; false; links as usize] else {
-            return Err(Memory);
-        };
+        let turns = vec![in alloc; 0usize; points as usize]?;
+        let in_use = vec![in alloc; false; links as usize]?;
         Ok(Tree {
             near,
             orders: Vec::new(alloc),

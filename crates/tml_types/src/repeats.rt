@@ -64,9 +64,7 @@ fn is_repeated_in_many(alloc: Global, attrs: &[Attr<'_>]) -> Result<bool, Memory
 fn have_distinct_heads(alloc: Global, attrs: &[Attr<'_>]) -> Result<bool, Memory>
     ensures { IfOk result (λ d. d ≡ true → rules.is_repeated (map attribute_of attrs.now) ≡ false) }
 {
-    let Ok(mut heads) = heads_of(alloc, attrs) else {
-        return Err(Memory);
-    };
+    let mut heads = heads_of(alloc, attrs)?;
     heads.sort_unstable();
     Ok(rise(heads.as_slice()))
 }
@@ -98,9 +96,7 @@ fn rise(numbers: &[u64]) -> bool
 fn has_repeated_name(alloc: Global, attrs: &[Attr<'_>]) -> Result<bool, Memory>
     ensures { IfOk result (λ r. r ≡ rules.is_repeated (map attribute_of attrs.now)) }
 {
-    let Ok(mut names) = names_of(alloc, attrs) else {
-        return Err(Memory);
-    };
+    let mut names = names_of(alloc, attrs)?;
     names.sort_unstable();
     Ok(has_equal_neighbours(names.as_slice()))
 }
@@ -116,15 +112,11 @@ struct HeadedName<'s> {
 fn names_of<'s>(alloc: Global, attrs: &[Attr<'s>]) -> Result<Vec<HeadedName<'s>>, Memory>
     ensures { IfOk result (λ names. names.items ≡ map headed_name attrs.now) }
 {
-    let Ok(mut names) = Vec::with_capacity(alloc, attrs.len()) else {
-        return Err(Memory);
-    };
+    let mut names = Vec::with_capacity(alloc, attrs.len())?;
     for attr in attrs {
         let head = head_of(attr.name);
         let name = attr.name;
-        if names.push(HeadedName { head, name }).is_err() {
-            return Err(Memory);
-        }
+        names.push(HeadedName { head, name })?;
     }
     Ok(names)
 }

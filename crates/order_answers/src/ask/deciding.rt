@@ -100,8 +100,6 @@ fn counterexample_text(
     requires weaker { strength (cell_at table.now atom.from atom.to) < strength (order atom.strict) }
     ensures { IfOk result (λ text. IsCounterText table.now a rel b atom text.items) }
 {
-    let Ok(ranks) = counter(alloc, table, atom) else {
-        return Err(AllocError);
-    };
+    let ranks = counter(alloc, table, atom)?;
     evidence_text(alloc, Evidence::Counter { a, rel, b, ranks })
 }

@@ -11,7 +11,7 @@ ghost use Rattle.order_answers.specs.Ask.{AreWalks, ShowsProof};
 
 use evidence_format::Evidence;
 use net_answers::evidence_text;
-use net_core::{Atom, Atoms, List, MAX_INTERVALS, Memory, Net, Rel, Walk, atoms_of};
+use net_core::{Atom, Atoms, List, MAX_INTERVALS, Net, Rel, Walk, atoms_of};
 use std::alloc::{AllocError, Global};
 use walks::walk;
 
@@ -56,9 +56,8 @@ fn walk_for(alloc: Global, net: &Net, keep: &[bool], atom: Atom) -> Result<Walk,
     ensures proof { IfOk result (IsProof net.now atom) }
     ensures short { IfOk result (λ steps. length steps ≤ 2 * points net.now) }
 {
-    match walk(alloc, net, keep, atom.from, atom.to, atom.strict) {
-        Ok(Some(steps)) => Ok(steps),
-        Ok(None) => unreachable!(),
-        Err(Memory) => Err(AllocError),
+    match walk(alloc, net, keep, atom.from, atom.to, atom.strict)? {
+        Some(steps) => Ok(steps),
+        None => unreachable!(),
     }
 }

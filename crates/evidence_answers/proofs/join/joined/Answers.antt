@@ -14,8 +14,8 @@ returns-in-Err-BadLine c =
     malformed of_any (codes "second line ") c.args.second.now c.in-Err-BadLine.line c.malformed_answer.result (λ text told es are bodies. told)
     refuses.0 refuses.1 c.malformed_answer.ensures.finding c.malformed_answer.ensures.text
 
-pub returns-in-Ok-write_both : goal.returns-in-Ok-write_both
-returns-in-Ok-write_both c = λ es are bodies.
+pub returns : goal.returns
+returns c = λ es are bodies.
     let more = c.in-Ok.ensures.ok in
     let both = both_are_claims es more.0 are (are_claims more.0 c.args.second.now more.1) (omega (arith, bodies.0, more.2.0, c.requires.few, c.requires.second, c.in-Ok.ensures.few)) in
-    rw (c.done.ensures.finding, c.done.ensures.text, c.into_vec.ensures) (more.0, more.1, c.in-Ok-write_both.ensures es more.0 both bodies more.2)
+    rw (c.done.ensures.finding, c.done.ensures.text, c.into_vec.ensures) (more.0, more.1, c.in_ok-text.ensures es more.0 both bodies more.2)

@@ -18,10 +18,10 @@ returns-then-raise_in_turns c =
     let new = c.raise_in_turns.new.ranks in
     let rises = c.raise_in_turns.ensures.rises in
     let zeros : old ≡ replicate (points net) 0 =
-    c.deref_mut.ensures.value ∙ c.in-Ok.ensures.items_if_clones_equal (λ y e. e) ∙ ap (λ (n : ℕ). replicate (2 * n) 0) c.intervals-points.ensures.count in
+    c.deref_mut.ensures.value ∙ c.in_ok-ranks.ensures.items_if_clones_equal (λ y e. e) ∙ ap (λ (n : ℕ). replicate (2 * n) 0) c.intervals-points.ensures.count in
     let held : (t : Timeline) → SatisfiesAll c.deref-3.result.now t ↔ Fits net t =
     λ t. subst (λ (orders : List Atom). SatisfiesAll orders t ↔ Fits net t) (sym c.deref-3.ensures.value) (c.in_ok-orders.ensures.exact t) in
-    let whole = take_at new (drop (length new) c.in-Ok.ranks.items) c.in-Ok.ranks.len (omega (arith, rises.size, c.deref_mut.ensures.len)) in
+    let whole = take_at new (drop (length new) c.in_ok-ranks.ranks.items) c.in_ok-ranks.ranks.len (omega (arith, rises.size, c.deref_mut.ensures.len)) in
     subst (AreLeastRanks net) (sym (c.from_vec.ensures ∙ whole))
     (least_from_zeros (points net) old zeros (Fits net) new (rises_part (SatisfiesAll c.deref-3.result.now) (Fits net) old new (λ t fits. (held t).1 fits) rises)
     ((held (timeline_of new)).0 (c.raise_in_turns.ensures.fits c.if-raise_in_turns.true)))

@@ -10,7 +10,7 @@ use Rattle.net_orders.proofs.orders.all_orders.Goals as goal
 pub loop-link-init : goal.loop-link-init
 loop-link-init c =
     let net = c.args.net.now in
-    let same = c.in-Ok.ensures.items in
+    let same = c.in_ok-orders.ensures.items in
     record {
       end = c.links-link-end.ensures.count;
       in_range = subst (AreInRange (points net)) (sym same) c.requires.in_range;

@@ -16,30 +16,30 @@ use Rattle.order_answers.proofs.drill_command.of_document.Goals as goal
 
 pub unreachable-requires : goal.unreachable-requires
 unreachable-requires c =
-    let built = subst (λ (contents : PlainDocument). IsNetOf contents c.in-Ok.net) c.requires.contents c.in-Ok.ensures.net in
-    let clash = subst (ReportsClash c.in-Ok.net) c.in-Err-Clash.field-0-is c.in-Err-Clash.ensures.err in
-    clash.0 (hidden_timeline c.args.n) (hidden_intervals_fit c.args.n c.in-Ok.net c.requires.drill built)
+    let built = subst (λ (contents : PlainDocument). IsNetOf contents c.in_ok-net.net) c.requires.contents c.in_ok-net.ensures.net in
+    let clash = subst (ReportsClash c.in_ok-net.net) c.in-Err-Clash.field-0-is c.in-Err-Clash.ensures.err in
+    clash.0 (hidden_timeline c.args.n) (hidden_intervals_fit c.args.n c.in_ok-net.net c.requires.drill built)
 
 pub greatest-requires : goal.greatest-requires
 greatest-requires c =
-    let built = subst (λ (contents : PlainDocument). IsNetOf contents c.in-Ok.net) c.requires.contents c.in-Ok.ensures.net in
-    let many : points c.in-Ok.net ≡ 2 * c.args.n = as_many_points c.args.n c.in-Ok.net built in
-    rw c.as_slice.ensures.value (omega (arith, c.in-Ok-least.ensures.size, c.in-Ok-close.ensures.ok.size, many, c.requires.drill.0))
+    let built = subst (λ (contents : PlainDocument). IsNetOf contents c.in_ok-net.net) c.requires.contents c.in_ok-net.ensures.net in
+    let many : points c.in_ok-net.net ≡ 2 * c.args.n = as_many_points c.args.n c.in_ok-net.net built in
+    rw c.as_slice.ensures.value (omega (arith, c.in_ok-ranks.ensures.size, c.in-Ok.ensures.ok.size, many, c.requires.drill.0))
 
 pub returns : goal.returns
 returns c =
-    let net = c.in-Ok.net in
-    let table = c.in-Ok-close.table in
-    let closure = c.in-Ok-close.ensures.ok in
-    let ranks = c.in-Ok-least.ranks in
-    let rows = c.in-Ok-rows.rows in
+    let net = c.in_ok-net.net in
+    let table = c.in-Ok.table in
+    let closure = c.in-Ok.ensures.ok in
+    let ranks = c.in_ok-ranks.ranks in
+    let rows = c.in_ok-rows.rows in
     let are : AreFigures c.args.n _ = record {
       net = net;
       ranks = ranks;
       rows = rows;
-      has_net = (c.args.document.now, c.requires.says, c.in-Ok.ensures.net);
-      least = (c.in-Ok-least.ensures.size ∙ closure.size, least_fits net table (timeline_of ranks) closure c.in-Ok-least.ensures.least);
-      follow = (rows_follow net table closure rows).0 c.in-Ok-rows.ensures;
+      has_net = (c.args.document.now, c.requires.says, c.in_ok-net.ensures.net);
+      least = (c.in_ok-ranks.ensures.size ∙ closure.size, least_fits net table (timeline_of ranks) closure c.in_ok-ranks.ensures.least);
+      follow = (rows_follow net table closure rows).0 c.in_ok-rows.ensures;
       drill = refl;
       bytes = c.requires.bytes;
       links = c.links.ensures.count;

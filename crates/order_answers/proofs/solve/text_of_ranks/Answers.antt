@@ -4,17 +4,17 @@ use Rattle.net_core.specs.Least.{AreLeastRanks}
 use Rattle.order_answers.proofs.Fitting.{least_below}
 use Rattle.order_answers.proofs.Timelines.{shows_least}
 use Rattle.order_answers.proofs.solve.text_of_ranks.Goals as goal
-use Rattle.order_answers.proofs.solve.text_of_ranks.Goals.{In-Ok-Some}
+use Rattle.order_answers.proofs.solve.text_of_ranks.Goals.{In-Some}
 
 -- the ranks are the least that fit
-least : (c : In-Ok-Some) → AreLeastRanks c.args.net.now c.in-Ok-Some.ranks
-least c = subst (λ (o : Option (List ℕ)). IfSome o (AreLeastRanks c.args.net.now)) c.in-Ok-Some.field-0-is c.in-Ok-Some.ensures
+least : (c : In-Some) → AreLeastRanks c.args.net.now c.in-Some.ranks
+least c = subst (λ (o : Option (List ℕ)). IfSome o (AreLeastRanks c.args.net.now)) c.in-Some.is c.in_ok-ranks.ensures
 
 pub timeline_text-requires-clause-small : goal.timeline_text-requires-clause-small
-timeline_text-requires-clause-small c = least_below c.args.net.now c.intervals.ensures.net c.in-Ok-Some.ranks (least (goal.at.timeline_text-requires-clause-small c).In-Ok-Some)
+timeline_text-requires-clause-small c = least_below c.args.net.now c.intervals.ensures.net c.in-Some.ranks (least (goal.at.timeline_text-requires-clause-small c).In-Some)
 
-pub returns-in_ok-timeline_text-in-Ok-Some : goal.returns-in_ok-timeline_text-in-Ok-Some
-returns-in_ok-timeline_text-in-Ok-Some c =
-    let text = c.in_ok-timeline_text-in-Ok-Some.field-0.items in
-    shows_least c.args.net.now c.in-Ok-Some.ranks text (least (goal.at.returns-in_ok-timeline_text-in-Ok-Some c).In-Ok-Some)
-    c.in_ok-timeline_text-in-Ok-Some.ensures.text c.in_ok-timeline_text-in-Ok-Some.ensures.short
+pub returns-in_ok-timeline_text-in-Some : goal.returns-in_ok-timeline_text-in-Some
+returns-in_ok-timeline_text-in-Some c =
+    let text = c.in_ok-timeline_text-in-Some.field-0.items in
+    shows_least c.args.net.now c.in-Some.ranks text (least (goal.at.returns-in_ok-timeline_text-in-Some c).In-Some)
+    c.in_ok-timeline_text-in-Some.ensures.text c.in_ok-timeline_text-in-Some.ensures.short

@@ -14,9 +14,9 @@ loop-number-init c =
     let d = c.args.distances.now in
     let from = c.args.from in
     let none : Option ℕ = None in
-    let made : c.in-Ok.places.items ≡ replicate c.len.result none = search rules in
+    let made : c.in_ok-places.places.items ≡ replicate c.len.result none = search rules in
     let size : c.len.result ≡ length d.seconds = c.len.ensures ∙ c.requires.relaxed.size in
-    subst (λ (trail : List ℕ). IsWalked edges d from trail c.in-Ok.places.items from) (sym c.new-trail.ensures.items)
+    subst (λ (trail : List ℕ). IsWalked edges d from trail c.in_ok-places.places.items from) (sym c.new-trail.ensures.items)
     (subst (λ (places : List (Option ℕ)). IsWalked edges d from [] places from) (sym (made ∙ ap (λ (n : ℕ). replicate n none) size)) (walk_begins edges d c.requires.relaxed from c.requires.from))
 
 pub rest_of-requires : goal.rest_of-requires
@@ -71,4 +71,4 @@ loop-number-preserved c =
 
 pub returns : goal.returns
 returns c =
-    walk_ends c.args.edges.now c.args.distances.now c.requires.relaxed c.args.from c.loop-number.trail.items c.loop-number.places.items c.loop-number.point c.loop-number.invariant (sym c.predecessor.ensures ∙ c.in_default-predecessor.is)
+    walk_ends c.args.edges.now c.args.distances.now c.requires.relaxed c.args.from c.loop-number.trail.items c.loop-number.places.items c.loop-number.point c.loop-number.invariant (sym c.predecessor.ensures ∙ c.in_default.is)

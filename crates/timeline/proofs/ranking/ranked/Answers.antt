@@ -8,8 +8,8 @@ use Rattle.timeline.proofs.Whole.{least_ranks, small_ranks}
 use Rattle.timeline.proofs.ranking.ranked.Goals as goal
 use Rattle.timeline.proofs.ranking.ranked.Goals.{After-rank_all}
 
-items : (c : After-rank_all) → (with_items c.in-Ok.ranks c.rank_all.new.ranks).items ≡ c.rank_all.new.ranks
-items c = let same : length c.rank_all.new.ranks ≡ c.in-Ok.ranks.len = omega arith in with_items_is c.in-Ok.ranks c.rank_all.new.ranks same
+items : (c : After-rank_all) → (with_items c.in_ok-ranks.ranks c.rank_all.new.ranks).items ≡ c.rank_all.new.ranks
+items c = let same : length c.rank_all.new.ranks ≡ c.in_ok-ranks.ranks.len = omega arith in with_items_is c.in_ok-ranks.ranks c.rank_all.new.ranks same
 
 pub returns-clause-least : goal.returns-clause-least
 returns-clause-least c =

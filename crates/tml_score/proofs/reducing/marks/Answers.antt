@@ -18,13 +18,13 @@ with_marks net table graph keep = record { net = net; table = table; graph = gra
 pub new-requires-3 : goal.new-requires-3
 new-requires-3 c =
     let net = c.args.net.now in
-    let all : c.deref.result.now ≡ replicate (length net.links) true = c.deref.ensures.value ∙ c.in-Ok.ensures.items_if_clones_equal (λ y e. e) ∙ ap (λ (n : ℕ). replicate n true) c.links.ensures.count in
+    let all : c.deref.result.now ≡ replicate (length net.links) true = c.deref.ensures.value ∙ c.in_ok-keep.ensures.items_if_clones_equal (λ y e. e) ∙ ap (λ (n : ℕ). replicate n true) c.links.ensures.count in
     ready_so_far (with_marks net c.args.table.now c.args.graph.now c.deref.result.now) 0 c.links.ensures.net c.requires.fits c.requires.closure c.requires.graph (subst (AreGoneOver net 0) (sym all) (none_gone_over net))
 
 pub loop-link-init : goal.loop-link-init
 loop-link-init c =
     let net = c.args.net.now in
-    let all : c.in-Ok.keep.items ≡ replicate (length net.links) true = c.in-Ok.ensures.items_if_clones_equal (λ y e. e) ∙ ap (λ (n : ℕ). replicate n true) c.links.ensures.count in
+    let all : c.in_ok-keep.keep.items ≡ replicate (length net.links) true = c.in_ok-keep.ensures.items_if_clones_equal (λ y e. e) ∙ ap (λ (n : ℕ). replicate n true) c.links.ensures.count in
     record {
       end = c.links-link-end.ensures.count;
       room = (

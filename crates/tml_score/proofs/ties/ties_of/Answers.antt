@@ -7,7 +7,7 @@ use Rattle.tml_score.specs.Ties.{AreOrders}
 use Rattle.tml_score.specs.Tree.{no_order}
 use Rattle.tml_score.proofs.TieLaws.{range_at}
 use Rattle.tml_score.proofs.ties.ties_of.Goals as goal
-use Rattle.tml_score.proofs.ties.ties_of.Goals.{else-not-apart-via-then-not-apart+else-is_err, else-not-apart-via-else-not-apart}
+use Rattle.tml_score.proofs.ties.ties_of.Goals.{then-not-apart+in_ok-push, else-not-apart}
 
 -- the orders that are taken are all orders of the net
 are_orders : (basis : Basis) (items : List Order) → items ≡ basis.graph.onward.items → AreOrders basis items
@@ -34,9 +34,9 @@ loop-order-preserved c =
     let o = slice_index_or items c.loop-order.order-index no_order in
     let all = are_orders (basis_of c.args.kept.now) items c.items-order-items.ensures in
     let among : Contains orders o = All-get_or (Contains orders) items c.loop-order.order-index no_order c.loop-order-test.true all in
-    elim c.else-not-apart.branch [
-      | else-not-apart-via-then-not-apart+else-is_err w ↦
-          let pushed : c.else-not-apart.ties.items ≡ c.loop-order.ties.items ++ o ∷ [] = search rules in
+    elim c.if-not-apart.branch [
+      | then-not-apart+in_ok-push w ↦
+          let pushed : c.if-not-apart.ties.items ≡ c.loop-order.ties.items ++ o ∷ [] = search rules in
           subst (All (Contains orders)) (sym pushed) (All-push (Contains orders) c.loop-order.ties.items o c.loop-order.invariant among)
-      | else-not-apart-via-else-not-apart w ↦ subst (λ v. All (Contains orders) v) (sym (ap (λ v. v.items) w.ties-is)) c.loop-order.invariant
+      | else-not-apart w ↦ subst (λ v. All (Contains orders) v) (sym (ap (λ v. v.items) w.ties-is)) c.loop-order.invariant
     ]

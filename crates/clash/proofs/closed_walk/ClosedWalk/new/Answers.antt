@@ -10,7 +10,7 @@ use Rattle.clash.proofs.closed_walk.ClosedWalk.new.Goals.{After-mark_steps}
 
 -- at first no link is marked
 fresh : (c : After-mark_steps) → c.deref_mut.result.now ≡ replicate c.links.result false
-fresh c = c.deref_mut.ensures.value ∙ c.in-Ok.ensures.items_if_clones_equal (λ y e. e)
+fresh c = c.deref_mut.ensures.value ∙ c.in_ok-over.ensures.items_if_clones_equal (λ y e. e)
 
 size : (c : After-mark_steps) → length c.mark_steps.new.marks ≡ length c.args.net.now.links
 size c = c.mark_steps.ensures.length ∙ (ap (λ (marks : List Bool). length marks) (fresh c) ∙ (length-replicate c.links.result false ∙ c.links.ensures.count))
@@ -38,9 +38,9 @@ pub returns-clause-closed : goal.returns-clause-closed
 returns-clause-closed c =
     let here = (goal.at.returns-clause-closed c).After-mark_steps in
     let marks = here.mark_steps.new.marks in
-    let long : length marks ≡ c.in-Ok.over.len = here.mark_steps.ensures.length ∙ here.deref_mut.ensures.len in
-    let all : AreMarks here (with_items c.in-Ok.over marks).items =
-    subst (AreMarks here) (sym (with_items_is c.in-Ok.over marks long)) (size here, goes_from_marks c.args.net.now c.args.walk marks c.requires.goes (over here), over here) in
+    let long : length marks ≡ c.in_ok-over.over.len = here.mark_steps.ensures.length ∙ here.deref_mut.ensures.len in
+    let all : AreMarks here (with_items c.in_ok-over.over marks).items =
+    subst (AreMarks here) (sym (with_items_is c.in_ok-over.over marks long)) (size here, goes_from_marks c.args.net.now c.args.walk marks c.requires.goes (over here), over here) in
     record {
       size = all.0;
       goes = all.1;

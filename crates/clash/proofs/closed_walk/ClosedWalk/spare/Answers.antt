@@ -14,7 +14,7 @@ use Rattle.clash.proofs.closed_walk.ClosedWalk.spare.Goals.{After-deref_mut, Aft
 
 -- the ranks that rise are zeros
 zeros : (c : After-deref_mut) → c.deref_mut.result.now ≡ replicate (points c.args.net.now) 0
-zeros c = c.deref_mut.ensures.value ∙ c.in-Ok.ensures.items_if_clones_equal (λ y e. e) ∙ ap (λ (n : ℕ). replicate (2 * n) 0) c.intervals.ensures.count
+zeros c = c.deref_mut.ensures.value ∙ c.in_ok-ranks.ensures.items_if_clones_equal (λ y e. e) ∙ ap (λ (n : ℕ). replicate (2 * n) 0) c.intervals.ensures.count
 
 pub settle-requires : goal.settle-requires
 settle-requires c =
@@ -32,7 +32,7 @@ returns-then-settle-clause-some c =
     let before = (goal.at.returns-then-settle-clause-some c).After-deref_mut in
     let new = c.settle.new.ranks in
     let risen = rises here in
-    let whole = take_at new (drop (length new) c.in-Ok.ranks.items) c.in-Ok.ranks.len (omega (arith, risen.size, c.deref_mut.ensures.len)) in
+    let whole = take_at new (drop (length new) c.in_ok-ranks.ranks.items) c.in_ok-ranks.ranks.len (omega (arith, risen.size, c.deref_mut.ensures.len)) in
     subst (IsSpare net (Kept c.args.self.now.over.items) c.args.omitted) (sym (c.from_vec.ensures ∙ whole))
     (spare_from_zeros net c.args.self.now c.args.fixed.now c.args.omitted c.deref_mut.result.now new c.intervals.ensures.net c.requires.closed c.requires.fixed (zeros before) risen
     (subst (λ (orders : List Order). FitsBut orders c.args.fixed.now c.args.omitted (timeline_of new)) c.as_slice.ensures (c.settle.ensures.fits c.if-settle.true)))
