@@ -34,11 +34,12 @@ use Rattle.tml_types.specs.TagReader.{AreTypedSo, HasJudged, HasReadUnits, HasSo
 use Rattle.tml_types.specs.View.{typed_of}
 use Rattle.tml_types.specs.Walking.{Yields}
 use Rattle.tml_types.specs.Whole.{HasTagFault}
+use Rattle.tml_types.specs.declared.repeats.NameRoom.{NameRoom}
 use Rattle.tml_types.proofs.Rising.{units_placed}
 use Rattle.tml_types.proofs.Walks.{fault_of_more, types_append}
 
 -- before the first unit
-pub nothing_read : (source : List ℕ) (units : Reading) (h : History) → BeginsCut source units → h ≡ no_history → HasJudged source [] [] (record { units = units; nesting = h })
+pub nothing_read : {names : NameRoom} (source : List ℕ) (units : Reading) (h : History) → BeginsCut source units → h ≡ no_history → HasJudged source [] [] (record { units = units; nesting = h; names = names })
 nothing_read source units h begins e = record {
   source_is = ap (λ (r : Reading). r.source) begins.0;
   cut = begins.1;
@@ -60,8 +61,8 @@ tags_more us u = ap (λ (ts : List PlainTag). tags_of us ++ ts) (sym (one_tag (t
 module _ {source : List ℕ} {us : List PlainUnit} {Known : List PlainTag → Type 0} (old : TagReader) (h : HasReadUnits source us Known old) where
   module _ (units : Reading) (u : Unit) (gives : CutsOn old.units units (Ok (Some u))) where
     -- it passes
-    pub reads_on : (More : List PlainTag → Type 0) (nesting : History) → Passes old.nesting (unit_of u).kind nesting → ((tags : List PlainTag) → Known tags → More (tags ++ option_to_list (tag_of (unit_of u))))
-        → HasReadUnits source (us ++ unit_of u ∷ []) More (record { units = units; nesting = nesting })
+    pub reads_on : {names : NameRoom} (More : List PlainTag → Type 0) (nesting : History) → Passes old.nesting (unit_of u).kind nesting → ((tags : List PlainTag) → Known tags → More (tags ++ option_to_list (tag_of (unit_of u))))
+        → HasReadUnits source (us ++ unit_of u ∷ []) More (record { units = units; nesting = nesting; names = names })
     reads_on More nesting passes more =
         let p = passes_on us (unit_of u) h.open_tags h.nodes old.nesting nesting h.passed passes in
         record {
@@ -143,5 +144,5 @@ given_placed source us typed r h =
     units_placed r.units.source some.1 us some.0 typed some.2 h.known.0.typed_tags h.known.1
 
 -- where a unit is pulled fewer bytes are left
-pub fewer_left : (old : TagReader) (units : Reading) (nesting : History) (u : Unit) → CutsOn old.units units (Ok (Some u)) → bytes_left (record { units = units; nesting = nesting }) < bytes_left old
-fewer_left old units nesting u gives = let e : length units.source ≡ length old.units.source = ap length gives.0 in omega (arith, e, gives.1, gives.2)
+pub fewer_left : (old : TagReader) (units : Reading) (nesting : History) (names : NameRoom) (u : Unit) → CutsOn old.units units (Ok (Some u)) → bytes_left (record { units = units; nesting = nesting; names = names }) < bytes_left old
+fewer_left old units nesting names u gives = let e : length units.source ≡ length old.units.source = ap length gives.0 in omega (arith, e, gives.1, gives.2)

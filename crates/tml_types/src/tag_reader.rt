@@ -11,6 +11,7 @@ ghost use Rattle.tml_types.specs.TagReader.{BeginsJudging, FaultsWith, GivesTag,
 
 use crate::TypeFault;
 use crate::attributes::Attributes;
+use crate::repeats::NameRoom;
 use crate::typed::TypedTag;
 use crate::typing::type_one;
 use faults::{FaultKind, write_fault};
@@ -66,6 +67,7 @@ pub struct Judged<'s> {
 pub struct TagReader<'s> {
     units: Cutter<'s>,
     nesting: Nesting,
+    names: NameRoom<'s>,
 }
 
 impl<'s> TagReader<'s> {
@@ -84,6 +86,7 @@ impl<'s> TagReader<'s> {
         Ok(TagReader {
             units,
             nesting: Nesting::new(alloc),
+            names: NameRoom::new(alloc),
         })
     }
 
@@ -116,7 +119,7 @@ impl<'s> TagReader<'s> {
                 Err(fault) => return Err(self.refusal(fault)),
             };
             if let Some(tag) = begun {
-                match type_one(alloc, tag.name, tag.of) {
+                match type_one(&mut self.names, tag.name, tag.of) {
                     Ok(None) => self.units.take_back(unit),
                     Ok(Some(typed)) => {
                         self.units.take_back(unit);
@@ -155,7 +158,7 @@ impl<'s> TagReader<'s> {
         let Some(tag) = begun else {
             return Ok(Some(Judged { unit, tag: None }));
         };
-        match type_one(alloc, tag.name, tag.of) {
+        match type_one(&mut self.names, tag.name, tag.of) {
             Ok(tag) => Ok(Some(Judged { unit, tag })),
             Err(fault) => Err(self.fault_with(alloc, fault)),
         }
@@ -196,6 +199,7 @@ impl<'s> TagReader<'s> {
                     if let Err(refused) = judge(&mut self.nesting, &unit) {
                         return self.refusal(refused);
                     }
+                    self.units.take_back(unit);
                 }
                 Ok(None) => {
                     return match self.end() {

@@ -11,11 +11,10 @@ ghost use Rattle.tml_types.specs.Walking.{ReadsTag, RefusesTag, Yields, name_of_
 ghost use Rattle.tml_types.specs.Whole.{HasTagFault};
 
 use crate::attributes::Attributes;
-use crate::repeats::is_repeated;
+use crate::repeats::{NameRoom, is_repeated};
 use crate::typed::{TagKind, TypedTag};
 use crate::{AspectRel, EventClass, SubRel, TypeFault};
 use net_core::Rel;
-use std::alloc::Global;
 use timex_value::TimexKind;
 use tml_span::Memory;
 use tml_tree::TagName;
@@ -207,7 +206,7 @@ fn typed_tag<'s>(kind: TagKind, of: &Attributes<'_, 's>) -> Result<TypedTag<'s>,
 /// so this one and `typed_tag` stand in their callers.
 #[inline(always)]
 pub fn type_one<'s>(
-    alloc: Global,
+    room: &mut NameRoom<'s>,
     name: TagName,
     of: Attributes<'_, 's>,
 ) -> Result<Option<TypedTag<'s>>, TypeFault>
@@ -215,7 +214,7 @@ pub fn type_one<'s>(
     ensures err { IfErr result (λ e. HasTagFault (tag_at of.entry.place name (attrs_of of.entry) ∷ []) e) }
 {
     let place = of.place;
-    match is_repeated(alloc, of.attrs) {
+    match is_repeated(room, of.attrs) {
         Ok(false) => {}
         Ok(true) => return Err(TypeFault::RepeatedAttribute { place }),
         Err(Memory) => return Err(TypeFault::Memory),

@@ -7,6 +7,7 @@ ghost use Rattle.tml_types.specs.Whole as whole;
 ghost use Rattle.tml_types.specs.Whole.{HasTagFault, IsAtLeastPlace, OfTree, Types};
 
 use crate::attributes::Attributes;
+use crate::repeats::NameRoom;
 use crate::typed::TypedTag;
 use crate::typing::type_one;
 use faults::{FaultKind, write_fault};
@@ -113,14 +114,15 @@ pub fn type_tags<'s>(alloc: Global, tree: &TagTree<'s>) -> Result<Typed<'s>, Typ
     ensures least { IfErr result (λ e. OfTree tree.now (λ tags. IsAtLeastPlace tags e)) }
 {
     let mut typed = List::new(alloc);
-    type_tag(alloc, tree.root(), &mut typed)?;
+    let mut room = NameRoom::new(alloc);
+    type_tag(&mut room, tree.root(), &mut typed)?;
     Ok(Typed::new(typed))
 }
 
 /// Types a tag and then the tags inside it.
 #[cycle(walk)]
 fn type_tag<'s>(
-    alloc: Global,
+    room: &mut NameRoom<'s>,
     tag: &Tag<'s>,
     typed: &mut List<TypedTag<'s>>,
 ) -> Result<(), TypeFault>
@@ -131,13 +133,13 @@ fn type_tag<'s>(
         place: tag.span.start,
         attrs: tag.attrs.as_slice(),
     };
-    if let Some(own) = type_one(alloc, tag.name, of)? {
+    if let Some(own) = type_one(room, tag.name, of)? {
         if typed.push(own).is_err() {
             return Err(TypeFault::Memory);
         }
     }
     for child in &tag.children {
-        type_node(alloc, child, typed)?;
+        type_node(room, child, typed)?;
     }
     Ok(())
 }
@@ -145,7 +147,7 @@ fn type_tag<'s>(
 /// Types the tags of a node.
 #[cycle(walk)]
 fn type_node<'s>(
-    alloc: Global,
+    room: &mut NameRoom<'s>,
     node: &Node<'s>,
     typed: &mut List<TypedTag<'s>>,
 ) -> Result<(), TypeFault>
@@ -154,6 +156,6 @@ fn type_node<'s>(
 {
     match node {
         Node::Text { .. } | Node::Comment { .. } => Ok(()),
-        Node::Element(tag) => type_tag(alloc, tag, typed),
+        Node::Element(tag) => type_tag(room, tag, typed),
     }
 }

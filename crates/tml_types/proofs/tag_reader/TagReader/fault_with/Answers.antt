@@ -1,7 +1,9 @@
-use Rattle.std.proofs.Common.{List, ◌++◌, ◌∷◌, []}
+use Rattle.std.proofs.Common.{List, ◌++◌, ◌∷◌, [], subst, sym}
 use Rattle.std.specs.Option.{option_to_list}
+use Rattle.tml_span.specs.Reader.{Reading}
 use Rattle.tml_span.specs.View.{unit_of}
 use Rattle.tml_tree.specs.Walking.{PlainTag, tag_of}
+use Rattle.tml_types.specs.TagReader.{HasReadUnits}
 use Rattle.tml_types.specs.Whole.{HasTagFault}
 use Rattle.tml_types.proofs.Pulling.{cut_fault, fault_stays, reads_on, unclosed_read, unit_fault, whole_read}
 use Rattle.tml_types.proofs.tag_reader.TagReader.fault_with.Goals as goal
@@ -13,18 +15,11 @@ returns-in-Err-judge c = λ source us read.
 
 pub loop-unit-preserved : goal.loop-unit-preserved
 loop-unit-preserved c = λ source us read.
-    let gives = rw c.in-Ok-Some.field-0-is at c.in-Ok-Some.ensures in
-    ((c.loop-unit.invariant source us read).0 ++ unit_of c.in-Ok-Some.unit ∷ [], reads_on c.loop-unit.self (c.loop-unit.invariant source us read).1 c.pull.new.self c.in-Ok-Some.unit gives (λ (tags : List PlainTag). HasTagFault tags c.args.fault) c.judge.new.nesting c.in_default.ensures.ok (fault_stays c.args.fault (option_to_list (tag_of (unit_of c.in-Ok-Some.unit)))))
-
-pub loop-unit-preserved-in_default : goal.loop-unit-preserved-in_default
-loop-unit-preserved-in_default c = λ source us read.
-    let gives = rw c.in-Ok-Some.field-0-is at c.in-Ok-Some.ensures in
-    ((c.loop-unit.invariant source us read).0 ++ unit_of c.in-Ok-Some.unit ∷ [], reads_on c.loop-unit.self (c.loop-unit.invariant source us read).1 c.pull.new.self c.in-Ok-Some.unit gives (λ (tags : List PlainTag). HasTagFault tags c.args.fault) c.judge.new.nesting c.in_default.ensures.ok (fault_stays c.args.fault (option_to_list (tag_of (unit_of c.in-Ok-Some.unit)))))
-
-pub loop-unit-preserved-in_default-2 : goal.loop-unit-preserved-in_default-2
-loop-unit-preserved-in_default-2 c = λ source us read.
-    let gives = rw c.in-Ok-Some.field-0-is at c.in-Ok-Some.ensures in
-    ((c.loop-unit.invariant source us read).0 ++ unit_of c.in-Ok-Some.unit ∷ [], reads_on c.loop-unit.self (c.loop-unit.invariant source us read).1 c.pull.new.self c.in-Ok-Some.unit gives (λ (tags : List PlainTag). HasTagFault tags c.args.fault) c.judge.new.nesting c.in_default.ensures.ok (fault_stays c.args.fault (option_to_list (tag_of (unit_of c.in-Ok-Some.unit)))))
+    let gives = rw c.in-Ok-Some.field-0-is at c.in-Ok-Some.ensures in (
+      (c.loop-unit.invariant source us read).0 ++ unit_of c.in-Ok-Some.unit ∷ [],
+      subst (λ (units : Reading). HasReadUnits source ((c.loop-unit.invariant source us read).0 ++ unit_of c.in-Ok-Some.unit ∷ []) (λ (tags : List PlainTag). HasTagFault tags c.args.fault) (record { units = units; nesting = c.judge.new.nesting; names = c.loop-unit.self.names })) (sym c.take_back.ensures)
+          (reads_on c.loop-unit.self (c.loop-unit.invariant source us read).1 c.pull.new.self c.in-Ok-Some.unit gives (λ (tags : List PlainTag). HasTagFault tags c.args.fault) c.judge.new.nesting c.in_default.ensures.ok (fault_stays c.args.fault (option_to_list (tag_of (unit_of c.in-Ok-Some.unit))))),
+    )
 
 pub returns-in-Ok : goal.returns-in-Ok
 returns-in-Ok c = λ source us read.

@@ -35,7 +35,7 @@ returns-in-Ok-Some-type_one-clause-gives c = λ source typed given.
     let t = c.in-Ok-Some-type_one.typed in
     let more = typed_more typed (begun_tag c.in-Some.tag) (Some t) (tag_of (unit_of c.in-Ok-Some.unit)) begun yields in
     let us = (c.loop-unit.invariant.stays source typed given).0 ++ unit_of c.in-Ok-Some.unit ∷ [] in
-    let read = subst (λ (units : Reading). HasReadUnits source us (AreTypedSo (typed ++ typed_of t ∷ [])) (record { units = units; nesting = c.judge.new.nesting })) (sym c.take_back-in-Ok-Some-type_one.ensures)
+    let read = subst (λ (units : Reading). HasReadUnits source us (AreTypedSo (typed ++ typed_of t ∷ [])) (record { units = units; nesting = c.judge.new.nesting; names = c.type_one.new.room })) (sym c.take_back-in-Ok-Some-type_one.ensures)
     (reads_on c.loop-unit.self (c.loop-unit.invariant.stays source typed given).1 c.pull.new.self c.in-Ok-Some.unit gives (AreTypedSo (typed ++ typed_of t ∷ [])) c.judge.new.nesting c.in-Ok-judge.ensures.ok more) in
     (((c.loop-unit.invariant.stays source typed given).0 ++ unit_of c.in-Ok-Some.unit ∷ [], read), given_placed source _ _ _ read)
 
@@ -53,23 +53,23 @@ loop-unit-preserved-in-Ok-None-type_one c =
     let gives = rw c.in-Ok-Some.field-0-is at c.in-Ok-Some.ensures in
     let begun = ap (option_map begun_tag) (sym c.in-Some.is) ∙ c.in-Ok-judge.ensures.begun in
     let yields = rw c.in-Ok-None-type_one.field-0-is at c.in-Ok-None-type_one.ensures.ok in
-    let fewer = fewer_left c.loop-unit.self c.pull.new.self c.judge.new.nesting c.in-Ok-Some.unit gives in
+    let fewer = fewer_left c.loop-unit.self c.pull.new.self c.judge.new.nesting c.type_one.new.room c.in-Ok-Some.unit gives in
     record {
       stays = λ source typed given.
           let us = (c.loop-unit.invariant.stays source typed given).0 ++ unit_of c.in-Ok-Some.unit ∷ [] in (
             us,
-            subst (λ (units : Reading). HasReadUnits source us (AreTypedSo typed) (record { units = units; nesting = c.judge.new.nesting })) (sym c.take_back.ensures)
+            subst (λ (units : Reading). HasReadUnits source us (AreTypedSo typed) (record { units = units; nesting = c.judge.new.nesting; names = c.type_one.new.room })) (sym c.take_back.ensures)
                 (reads_on c.loop-unit.self (c.loop-unit.invariant.stays source typed given).1 c.pull.new.self c.in-Ok-Some.unit gives (AreTypedSo typed) c.judge.new.nesting c.in-Ok-judge.ensures.ok
                 (typed_same typed (begun_tag c.in-Some.tag) (tag_of (unit_of c.in-Ok-Some.unit)) begun yields)),
           );
-      moves = subst (λ (units : Reading). bytes_left (record { units = units; nesting = c.judge.new.nesting }) ≤ bytes_left c.args.self.now) (sym c.take_back.ensures)
+      moves = subst (λ (units : Reading). bytes_left (record { units = units; nesting = c.judge.new.nesting; names = c.type_one.new.room }) ≤ bytes_left c.args.self.now) (sym c.take_back.ensures)
           (omega (arith, fewer, c.loop-unit.invariant.moves));
     }
 
 pub loop-unit-preserved : goal.loop-unit-preserved
 loop-unit-preserved c =
     let gives = rw c.in-Ok-Some.field-0-is at c.in-Ok-Some.ensures in
-    let fewer = fewer_left c.loop-unit.self c.pull.new.self c.judge.new.nesting c.in-Ok-Some.unit gives in
+    let fewer = fewer_left c.loop-unit.self c.pull.new.self c.judge.new.nesting c.loop-unit.self.names c.in-Ok-Some.unit gives in
     record {
       stays = λ source typed given. (
         (c.loop-unit.invariant.stays source typed given).0 ++ unit_of c.in-Ok-Some.unit ∷ [],

@@ -1,6 +1,6 @@
 use Rattle.std.proofs.Common.{◌≡◌, map, take}
 use Rattle.tml_types.specs.Heads.{name_head}
-use Rattle.tml_types.proofs.repeats.heads_of.Given as goal
+use Rattle.tml_types.proofs.repeats.write_heads.Given as goal
 
 -- the first bytes of the names so far
 abbrev pub invariant-loop-attr : goal.invariant-loop-attr
