@@ -65,14 +65,10 @@ pub fn close(alloc: Global, net: &Net) -> Result<Closed, CloseFault>
     ensures fits { IfOk result (λ table. (t : Timeline) × Fits net.now t) }
     ensures err { IfErr result (ReportsClash net.now) }
 {
-    match table_of(alloc, net) {
-        Ok(table) => {
-            // it is closed
-            prove!(table.points() == 2 * net.intervals());
-            Ok(table)
-        }
-        Err(fault) => Err(fault),
-    }
+    let table = table_of(alloc, net)?;
+    // it is closed
+    prove!(table.points() == 2 * net.intervals());
+    Ok(table)
 }
 
 /// The table that is kept by exactly the timelines that fit the net, or a clash.

@@ -34,15 +34,15 @@ newly_marked new Chosen size marked k below = (there, λ chosen. (marked k insid
     ]
 
 -- marks are alike exactly where a walk agrees with cites
-pub alike : (cited gone_over : List Bool) (cites : List ℕ) (steps : List Step) → AreMarked cited (Contains cites) → AreMarked gone_over (GoesOver steps)
-    → (k : ℕ) → k < max_links → (slice_index_or cited k false ≡ slice_index_or gone_over k false) ↔ Agrees cites steps k
-alike cited gone_over cites steps marked walked k below = (there, back)
+pub alike : (cited traversed : List Bool) (cites : List ℕ) (steps : List Step) → AreMarked cited (Contains cites) → AreMarked traversed (GoesOver steps)
+    → (k : ℕ) → k < max_links → (slice_index_or cited k false ≡ slice_index_or traversed k false) ↔ Agrees cites steps k
+alike cited traversed cites steps marked walked k below = (there, back)
   where
-    there : slice_index_or cited k false ≡ slice_index_or gone_over k false → Agrees cites steps k
+    there : slice_index_or cited k false ≡ slice_index_or traversed k false → Agrees cites steps k
     there e = (λ goes. (marked k below).0 (e ∙ (walked k below).1 goes), λ cites. (walked k below).0 (sym e ∙ (marked k below).1 cites))
 
-    back : Agrees cites steps k → slice_index_or cited k false ≡ slice_index_or gone_over k false
-    back agrees = same_from_decides (slice_index_or cited k false) (slice_index_or gone_over k false)
+    back : Agrees cites steps k → slice_index_or cited k false ≡ slice_index_or traversed k false
+    back agrees = same_from_decides (slice_index_or cited k false) (slice_index_or traversed k false)
         (λ e. (walked k below).1 (agrees.1 ((marked k below).0 e)), λ e. (marked k below).1 (agrees.0 ((walked k below).0 e))) (λ e. e, λ e. e)
 
 -- the link that a step goes over is one of a set where the step uses no other
@@ -52,11 +52,11 @@ uses_link Chosen (Span i) k e uses = absurd cc
 uses_link Chosen (Calendar p q) k e uses = absurd cc
 
 -- a walk agrees with cites that it all goes over, where it goes over them alone
-pub all_agree : (cited gone_over : List Bool) (cites : List ℕ) (steps : List Step) → AreMarked cited (Contains cites) → AreMarked gone_over (GoesOver steps)
-    → All (Kept gone_over) cites → All (Uses (Kept cited)) steps → (k : ℕ) → k < max_links → Agrees cites steps k
-all_agree cited gone_over cites steps marked walked over alone k below = (
+pub all_agree : (cited traversed : List Bool) (cites : List ℕ) (steps : List Step) → AreMarked cited (Contains cites) → AreMarked traversed (GoesOver steps)
+    → All (Kept traversed) cites → All (Uses (Kept cited)) steps → (k : ℕ) → k < max_links → Agrees cites steps k
+all_agree cited traversed cites steps marked walked over alone k below = (
   λ goes. (marked k below).0 (uses_link (Kept cited) goes.0 k goes.2 (All-contains (Uses (Kept cited)) steps goes.0 alone goes.1)),
-  λ cite. (walked k below).0 (All-contains (Kept gone_over) cites k over cite),
+  λ cite. (walked k below).0 (All-contains (Kept traversed) cites k over cite),
 )
 
 -- of two marks

@@ -107,7 +107,7 @@ IsRelationRefused ranks a r b refused = (refused.part ≡ 2) × (refused.reason 
 abbrev pub StepsGoOn : PlainNet → List StepOf → Type 0
 StepsGoOn net steps = (x : ℕ) × StepsGoFrom net x steps
 
--- The steps are no closed walk over exactly the cited links, for this reason and for none before it: step k is the first that does not go on; they do not end where they begin; none of them is strict; or a link is the first that is cited and not gone over, or gone over and not cited.
+-- The steps are no closed walk over exactly the cited links, for this reason and for none before it: step k is the first that does not go on; they do not end where they begin; none of them is strict; or a link is the first that is cited and not traversed, or traversed and not cited.
 abbrev pub IsNoClosedWalk : PlainNet → List ℕ → List StepOf → Reason → Type 0
 IsNoClosedWalk net cites steps (Step k) = (k < length steps) × StepsGoOn net (take k steps) × (StepsGoOn net (take (k + 1) steps) → ⊥)
 IsNoClosedWalk net cites steps End = (x : ℕ) × (y : ℕ) × IsJoined net EveryLink steps x y × (x ≢ y)

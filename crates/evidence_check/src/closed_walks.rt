@@ -53,13 +53,13 @@ fn first_disagreement(net: &Net, cites: &[u32], steps: &[Step]) -> Option<u32>
     let count = net.links();
     let mut cited = [false; MAX_LINKS as usize];
     mark_cites(&mut cited, cites);
-    let mut gone_over = [false; MAX_LINKS as usize];
-    mark_steps(&mut gone_over, steps);
-    if are_marked(&gone_over, cites) && use_marked(&cited, steps) {
+    let mut traversed = [false; MAX_LINKS as usize];
+    mark_steps(&mut traversed, steps);
+    if are_marked(&traversed, cites) && use_marked(&cited, steps) {
         return None;
     }
     for k in 0..count {
-        if cited[k as usize] != gone_over[k as usize] {
+        if cited[k as usize] != traversed[k as usize] {
             return Some(k);
         }
     }

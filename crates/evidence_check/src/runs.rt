@@ -45,7 +45,7 @@ pub fn are_kept(order: Order, pairs: &[Pair], lens: &[u16], ranks: &[u32]) -> bo
     let mut all = true;
     let mut rest = pairs;
     for len in lens {
-        let (run, more) = rest.split_at(*len as usize);
+        let (run, more) = rest.split_at(usize::from(*len));
         all &= is_run_kept(order, run, ranks);
         rest = more;
     }

@@ -107,10 +107,8 @@ pub fn read_bundle(alloc: Global, text: &[u8]) -> Result<Bundle, ReadEvidence>
     ensures few { IfOk result (λ bundle. length bundle ≤ length text.now) }
     ensures good { IfOk result (λ bundle. All IsWellFormed (map plain bundle)) }
 {
-    match kept_claims(alloc, text) {
-        Ok(claims) => Ok(Bundle::from_vec(claims)),
-        Err(refused) => Err(refused),
-    }
+    let claims = kept_claims(alloc, text)?;
+    Ok(Bundle::from_vec(claims))
 }
 
 /// The claims of a text, all kept. Nothing is reserved by their count, which comes from a stranger.

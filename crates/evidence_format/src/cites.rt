@@ -24,7 +24,7 @@ pub fn cites_at<'t>(
     for left in (0..count).rev() {
         let (link, after) = cite_at(left, least, rest)?;
         cites.push(link)?;
-        least = link as u64 + 1;
+        least = u64::from(link) + 1;
         rest = after;
     }
     Ok((cites, rest))
@@ -46,7 +46,7 @@ fn cite_of(left: u32, least: u64, line: &[u8]) -> Option<u32>
     ensures { result ≡ forms.cite_of left least line.now }
 {
     let link = one_of(b"cite ", line)?;
-    if least <= link as u64 && link <= u32::MAX - left {
+    if least <= u64::from(link) && link <= u32::MAX - left {
         Some(link)
     } else {
         None

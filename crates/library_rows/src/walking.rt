@@ -135,9 +135,7 @@ fn step_of(words: &mut Words<'_>) -> Option<Step> {
 
 /// Prints the links that stay when those that follow from others are left out. Some timeline has to fit the net.
 fn print_reduced(page: &mut Page, alloc: Global, net: &Net) -> Option<()> {
-    let Ok(_table) = close(alloc, net) else {
-        return None;
-    };
+    close(alloc, net).ok()?;
     match reduce(alloc, net) {
         Ok(links) => print_links(page, links.as_slice()),
         Err(Memory) => page.out_of_memory(),

@@ -74,7 +74,7 @@ fn digit_after(n: u64, b: u8) -> Option<u64>
     ensures { result ≡ words.digit_after n b }
 {
     match b {
-        b'0'..=b'9' => n.checked_mul(10)?.checked_add((b - b'0') as u64),
+        b'0'..=b'9' => n.checked_mul(10)?.checked_add(u64::from(b - b'0')),
         _ => None,
     }
 }

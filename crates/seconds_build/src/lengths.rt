@@ -33,7 +33,7 @@ fn number_of(count: Count) -> Option<u64>
 {
     match count {
         Count::Absent => Some(0),
-        Count::Number(n) => Some(n as u64),
+        Count::Number(n) => Some(u64::from(n)),
         Count::Unknown => None,
     }
 }

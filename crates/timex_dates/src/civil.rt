@@ -41,9 +41,9 @@ impl CivilText {
         ensures { bytes_of result ≡ printed year month day clock }
     {
         let wide = year == 10_000;
-        let year = if wide { 0 } else { year as u32 };
-        let month = month as u32;
-        let day = day as u32;
+        let year = if wide { 0 } else { u32::from(year) };
+        let month = u32::from(month);
+        let day = u32::from(day);
         let bytes = [
             b'1',
             digit(year / 1000),

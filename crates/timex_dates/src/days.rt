@@ -23,7 +23,7 @@ fn number_of(date: Date) -> i64
     ensures value { result ≡ epoch_day date }
     ensures bound { IsEpochDay result }
 {
-    date.to_plain().to_unix_epoch_day() as i64
+    i64::from(date.to_plain().to_unix_epoch_day())
 }
 
 /// The day number of a date of the calendar.
@@ -45,7 +45,7 @@ fn weekday_number(year: u16, month: u8, day: u8) -> i64
     ensures value { result ≡ pos (weekday (day_index year month day)) }
     ensures bound { IsBetween (pos 0) (pos 6) result }
 {
-    date_of(year, month, day).weekday().to_monday_zero_offset() as i64
+    i64::from(date_of(year, month, day).weekday().to_monday_zero_offset())
 }
 
 /// The day number of the Monday of a date's week.

@@ -29,7 +29,7 @@ fn days_to(first: i64, last: i64, count: u8) -> Interval
 {
     Interval {
         lo: first * 86_400,
-        hi: (last + count as i64) * 86_400,
+        hi: (last + i64::from(count)) * 86_400,
     }
 }
 
@@ -41,10 +41,10 @@ fn days_after(first: i64, skip: u16, count: u8) -> Interval
     ensures hi { result.hi ≡ result.lo +ℤ pos (count * 86_400) }
     ensures range { IsCivilSecond result.lo × IsCivilSecond result.hi }
 {
-    let lo = (first + skip as i64) * 86_400;
+    let lo = (first + i64::from(skip)) * 86_400;
     Interval {
         lo,
-        hi: lo + count as i64 * 86_400,
+        hi: lo + i64::from(count) * 86_400,
     }
 }
 
@@ -57,10 +57,10 @@ fn part_of_day(number: i64, from: u32, size: u16) -> Interval
     ensures hi { result.hi ≡ result.lo +ℤ pos size }
     ensures range { IsCivilSecond result.lo × IsCivilSecond result.hi }
 {
-    let lo = number * 86_400 + from as i64;
+    let lo = number * 86_400 + i64::from(from);
     Interval {
         lo,
-        hi: lo + size as i64,
+        hi: lo + i64::from(size),
     }
 }
 
@@ -152,7 +152,7 @@ pub(crate) fn week(year: u16, week: u8) -> Interval
     ensures extent { Extent (InWeek year week) result.lo result.hi }
     ensures range { IsCivilSecond result.lo × IsCivilSecond result.hi }
 {
-    days_after(monday_number(year, 1, 4), 7 * (week as u16 - 1), 7)
+    days_after(monday_number(year, 1, 4), 7 * (u16::from(week) - 1), 7)
 }
 
 /// A day of a week, where Monday is 1.
@@ -166,7 +166,7 @@ pub(crate) fn weekday(year: u16, week: u8, day: u8) -> Interval
 {
     days_after(
         monday_number(year, 1, 4),
-        7 * (week as u16 - 1) + (day as u16 - 1),
+        7 * (u16::from(week) - 1) + (u16::from(day) - 1),
         1,
     )
 }
@@ -180,7 +180,7 @@ pub(crate) fn hour(year: u16, month: u8, day: u8, hour: u8) -> Interval
     ensures extent { Extent (InHour year month day hour) result.lo result.hi }
     ensures range { IsCivilSecond result.lo × IsCivilSecond result.hi }
 {
-    part_of_day(day_number(year, month, day), hour as u32 * 3600, 3600)
+    part_of_day(day_number(year, month, day), u32::from(hour) * 3600, 3600)
 }
 
 /// A minute of an hour.
@@ -193,7 +193,7 @@ pub(crate) fn minute(year: u16, month: u8, day: u8, hour: u8, minute: u8) -> Int
     ensures extent { Extent (InMinute year month day hour minute) result.lo result.hi }
     ensures range { IsCivilSecond result.lo × IsCivilSecond result.hi }
 {
-    let from = hour as u32 * 3600 + minute as u32 * 60;
+    let from = u32::from(hour) * 3600 + u32::from(minute) * 60;
     part_of_day(day_number(year, month, day), from, 60)
 }
 
@@ -208,6 +208,6 @@ pub(crate) fn second(year: u16, month: u8, day: u8, hour: u8, minute: u8, second
     ensures extent { Extent (InSecond year month day hour minute second) result.lo result.hi }
     ensures range { IsCivilSecond result.lo × IsCivilSecond result.hi }
 {
-    let from = hour as u32 * 3600 + minute as u32 * 60 + second as u32;
+    let from = u32::from(hour) * 3600 + u32::from(minute) * 60 + u32::from(second);
     part_of_day(day_number(year, month, day), from, 1)
 }

@@ -34,7 +34,7 @@ fn year_start(year: u16) -> u32
     ensures value { result ≡ civil.year_start year }
     ensures bound { result < 25_000_000 }
 {
-    let before = year as u32 - 1;
+    let before = u32::from(year) - 1;
     365 * before + before / 4 - before / 100 + before / 400
 }
 
@@ -46,5 +46,5 @@ pub(crate) fn weeks_of(year: u16) -> u8
     ensures bound { IsInRange 52 53 result }
 {
     let start = year_start(year) + 3;
-    ((start + year_length(year) as u32) / 7 - start / 7) as u8
+    ((start + u32::from(year_length(year))) / 7 - start / 7) as u8
 }

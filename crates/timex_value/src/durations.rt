@@ -26,7 +26,7 @@ fn number(digits: &[u8]) -> u32
 {
     let mut n = 0u32;
     for b in digits {
-        n = n * 10 + (*b - b'0') as u32;
+        n = n * 10 + u32::from(*b - b'0');
     }
     n
 }
@@ -50,9 +50,7 @@ fn number_at(unit: u8, text: &[u8]) -> Option<(u32, &[u8])>
     if digits.is_empty() || 9 < digits.len() {
         return None;
     }
-    let Some(rest) = after(unit, rest) else {
-        return None;
-    };
+    let rest = after(unit, rest)?;
     Some((number(digits), rest))
 }
 
@@ -91,9 +89,7 @@ fn clock(text: &[u8]) -> Option<(Count, Count, Count)>
     if text.is_empty() {
         return Some((Count::Absent, Count::Absent, Count::Absent));
     }
-    let Some(text) = after(b'T', text) else {
-        return None;
-    };
+    let text = after(b'T', text)?;
     let (hours, text) = count_at(b'H', text);
     let (minutes, text) = count_at(b'M', text);
     let (seconds, text) = count_at(b'S', text);
@@ -127,9 +123,7 @@ pub(crate) fn duration(text: &[u8]) -> Option<Length>
     let (months, text) = count_at(b'M', text);
     let (weeks, text) = count_at(b'W', text);
     let (days, text) = count_at(b'D', text);
-    let Some((hours, minutes, seconds)) = clock(text) else {
-        return None;
-    };
+    let (hours, minutes, seconds) = clock(text)?;
     let length = Length {
         years,
         months,

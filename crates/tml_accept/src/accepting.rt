@@ -25,10 +25,7 @@ pub fn accept<'s>(alloc: Global, doc: &'s [u8]) -> Result<Document<'s>, Fault>
     ensures ok { IfOk result (Says doc.now) }
     ensures err { IfErr result (λ fault. IfSome fault (λ f. FirstFault doc.now f.0 f.1)) }
 {
-    let resolver = match resolver(alloc, doc) {
-        Ok(resolver) => resolver,
-        Err(fault) => return Err(fault),
-    };
+    let resolver = resolver(alloc, doc)?;
     match resolver.finish() {
         Ok(document) => Ok(document),
         Err(fault) => Err(fault.kind_and_place()),

@@ -27,10 +27,7 @@ pub fn canonical_text(alloc: Global, doc: &[u8]) -> Result<List<u8>, Fault>
     ensures text { IfOk result (λ text. IsCanonicalText doc.now text) }
     ensures err { IfErr result (λ fault. IfSome fault (λ f. FirstFault doc.now f.0 f.1)) }
 {
-    let taken = match take_all(alloc, doc) {
-        Ok(taken) => taken,
-        Err(fault) => return Err(fault),
-    };
+    let taken = take_all(alloc, doc)?;
     match taken.resolver.finish() {
         Ok(_) => {}
         Err(fault) => return Err(fault.kind_and_place()),

@@ -22,7 +22,7 @@ use Rattle.net_core.proofs.AtomLaws.{atoms_in_range, atoms_say_the_relation}
 use Rattle.net_core.proofs.StepLaws.{fits_fewer}
 use Rattle.net_core.proofs.WalkLaws.{walk_kept}
 use Rattle.tml_score.specs.Reduced.{Beside, CanFailWith, EveryNetIsReduced, FollowsFrom, IsReduced, OneReducedList, ReducedLinksSayTheSame}
-use Rattle.tml_score.specs.Reducing.{AreGoneOver, DecidesLink}
+use Rattle.tml_score.specs.Reducing.{AreDecided, DecidesLink}
 use Rattle.tml_score.proofs.Rising.{member_or_not, one_rising}
 
 -- ---- what they say
@@ -81,7 +81,7 @@ one_reduced_list = λ net links others is are. one_rising links others is.rising
 -- ---- links one after another
 
 -- the others that are kept are those beside the link that is taken next
-others_beside : (net : PlainNet) (n : ℕ) (keep : List Bool) → AreGoneOver net n keep → (j : ℕ) → j < length net.links → Beside (Kept keep) n j → Others (Kept keep) n j
+others_beside : (net : PlainNet) (n : ℕ) (keep : List Bool) → AreDecided net n keep → (j : ℕ) → j < length net.links → Beside (Kept keep) n j → Others (Kept keep) n j
 others_beside net n keep are j below beside = elim (cases_lt j n) [
   | inl before ↦ (beside.1 before, beside.0)
   | inr later ↦ (are.later j later below, beside.0)
@@ -91,8 +91,8 @@ beside_others : (n : ℕ) (keep : List Bool) (j : ℕ) → Others (Kept keep) n 
 beside_others n keep j other = (other.1, λ before. other.0)
 
 -- no link is taken yet
-pub none_gone_over : (net : PlainNet) → AreGoneOver net 0 (replicate (length net.links) true)
-none_gone_over net = record {
+pub none_decided : (net : PlainNet) → AreDecided net 0 (replicate (length net.links) true)
+none_decided net = record {
   size = length-replicate (length net.links) true;
   later = λ k low below. get_or-replicate (length net.links) k true false below;
   stay = λ k lt. absurd (omega arith);
@@ -101,8 +101,8 @@ none_gone_over net = record {
 }
 
 -- one link more, which stays
-pub gone_over_stays : (net : PlainNet) (n : ℕ) (keep : List Bool) → AreGoneOver net n keep → n < length net.links → DecidesLink net keep n false → AreGoneOver net (n + 1) keep
-gone_over_stays net n keep are below can = record {
+pub decided_kept : (net : PlainNet) (n : ℕ) (keep : List Bool) → AreDecided net n keep → n < length net.links → DecidesLink net keep n false → AreDecided net (n + 1) keep
+decided_kept net n keep are below can = record {
   size = are.size;
   later = λ k low lt. are.later k (omega (arith, low)) lt;
   stay = λ k lt kept. elim (cases_lt k n) [
@@ -122,7 +122,7 @@ gone_over_stays net n keep are below can = record {
 }
 
 -- one link more, which is left out
-module _ (net : PlainNet) (n : ℕ) (keep : List Bool) (are : AreGoneOver net n keep) (below : n < length net.links) (follows : DecidesLink net keep n true) where
+module _ (net : PlainNet) (n : ℕ) (keep : List Bool) (are : AreDecided net n keep) (below : n < length net.links) (follows : DecidesLink net keep n true) where
   abbrev without : List Bool
   without = slice_set keep n false
 
@@ -133,8 +133,8 @@ module _ (net : PlainNet) (n : ℕ) (keep : List Bool) (are : AreGoneOver net n 
   kept_beside : (k j : ℕ) → Beside (Kept without) k j → Beside (Kept keep) k j
   kept_beside k j beside = (beside.0, λ before. (set_others keep n j (beside.1 before)).0)
 
-  pub gone_over_left : AreGoneOver net (n + 1) without
-  gone_over_left = record {
+  pub decided_left_out : AreDecided net (n + 1) without
+  decided_left_out = record {
     size = length-set keep n false ∙ are.size;
     later = λ k low lt. others_set keep n k (are.later k (omega (arith, low)) lt, λ e. omega (arith, e, low));
     stay = λ k lt kept.
@@ -163,7 +163,7 @@ module _ (net : PlainNet) (n : ℕ) (keep : List Bool) (are : AreGoneOver net n 
   }
 
 -- when all are taken, those that are kept are the links that stay
-pub reduced_when_done : (net : PlainNet) (keep : List Bool) (links : List ℕ) → AreGoneOver net (length net.links) keep → IsStrictlyIncreasing links → ((k : ℕ) → Contains links k ↔ Kept keep k) → IsReduced net links
+pub reduced_when_done : (net : PlainNet) (keep : List Bool) (links : List ℕ) → AreDecided net (length net.links) keep → IsStrictlyIncreasing links → ((k : ℕ) → Contains links k ↔ Kept keep k) → IsReduced net links
 reduced_when_done net keep links are rising exact = record {
   rising = rising;
   of_net = All-weaker (Contains links) (λ (k : ℕ). k < length net.links) (λ k stays. within k stays) links (All-contains_itself links);
@@ -203,19 +203,19 @@ module _ (net : PlainNet) (is : IsNet net) (u : Timeline) (all_fit_u : Fits net 
         | inr fails ↦ inr (fails.0, fits_fewer net (Kept without) (Others (Kept keep) k) fails.0 (λ j lj other. others_set keep k j other) fails.1, λ holds. fails.2 ((law fails.0).0 holds))
       ]
 
-  gone_over : (n : ℕ) → n ≤ length net.links → (keep : List Bool) × AreGoneOver net n keep
-  gone_over zero low = (replicate (length net.links) true, none_gone_over net)
-  gone_over (suc n) low =
-      let so_far = gone_over n (omega (arith, low)) in
+  traversed : (n : ℕ) → n ≤ length net.links → (keep : List Bool) × AreDecided net n keep
+  traversed zero low = (replicate (length net.links) true, none_decided net)
+  traversed (suc n) low =
+      let so_far = traversed n (omega (arith, low)) in
       let more : n + 1 ≡ suc n = omega arith in
-      subst (λ (m : ℕ). (keep : List Bool) × AreGoneOver net m keep) more (elim (link_decided so_far.0 n (omega (arith, low))) [
-        | inl follows ↦ (slice_set so_far.0 n false, gone_over_left net n so_far.0 so_far.1 (omega (arith, low)) follows)
-        | inr can ↦ (so_far.0, gone_over_stays net n so_far.0 so_far.1 (omega (arith, low)) can)
+      subst (λ (m : ℕ). (keep : List Bool) × AreDecided net m keep) more (elim (link_decided so_far.0 n (omega (arith, low))) [
+        | inl follows ↦ (slice_set so_far.0 n false, decided_left_out net n so_far.0 so_far.1 (omega (arith, low)) follows)
+        | inr can ↦ (so_far.0, decided_kept net n so_far.0 so_far.1 (omega (arith, low)) can)
       ])
 
   some_reduced : (links : List ℕ) × IsReduced net links
   some_reduced =
-      let done = gone_over (length net.links) (omega arith) in
+      let done = traversed (length net.links) (omega arith) in
       let marked = every_marked done.0 (length done.0) in
       (marked.0, reduced_when_done net done.0 marked.0 done.1 marked.1.rising (λ k. (λ among. ((marked.1.exact k).0 among).1, λ kept. (marked.1.exact k).1 (kept_within done.0 k kept, kept))))
 

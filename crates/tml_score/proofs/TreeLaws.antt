@@ -16,7 +16,7 @@ use Rattle.net_core.specs.Relations.{Timeline}
 use Rattle.net_core.proofs.WalkLaws.{in_order_weaker}
 use Rattle.tml_score.specs.Ends.{point_at_end, far_end_of}
 use Rattle.tml_score.specs.Graph.{IsGraphOf, counts}
-use Rattle.tml_score.specs.Reducing.{AreGoneOver}
+use Rattle.tml_score.specs.Reducing.{AreDecided}
 use Rattle.tml_score.specs.Search.{Basis, IsAsked, IsLed, IsReady, Rest, is_other}
 use Rattle.tml_score.specs.Ties.{AreTies}
 use Rattle.tml_score.specs.Tree.{HoldBefore, IsBefore, IsBeyond, IsBranch, IsCovered, IsBeyondRoot, IsTree, LeadsOn, is_used, no_order, order_at, with_link, without}
@@ -171,7 +171,7 @@ ties_without basis link ties are = record { orders = are.orders; onward = are.on
 -- ---- links one after another
 
 -- what is taken so far says the same as all links
-pub ready_so_far : (basis : Basis) (n : ℕ) → IsNet basis.net → HasTimeline basis.net → IsClosureOf basis.net basis.table → IsGraphOf basis.net basis.graph → AreGoneOver basis.net n basis.keep → IsReady basis
+pub ready_so_far : (basis : Basis) (n : ℕ) → IsNet basis.net → HasTimeline basis.net → IsClosureOf basis.net basis.table → IsGraphOf basis.net basis.graph → AreDecided basis.net n basis.keep → IsReady basis
 ready_so_far basis n net fits closure graph are = record { net = net; fits = fits; closure = closure; graph = graph; marks = are.size; same = are.same }
 
 -- ---- what trees show

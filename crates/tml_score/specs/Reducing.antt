@@ -13,7 +13,7 @@ DecidesLink net keep k true = FollowsFrom net (Others (Kept keep) k) k
 DecidesLink net keep k false = CanFailWith net (Others (Kept keep) k) k
 
 -- The links before link n are taken, and those from it on are kept. Those that are kept say the same as all.
-pub record AreGoneOver (net : PlainNet) (n : ℕ) (keep : List Bool) : Type 0 where
+pub record AreDecided (net : PlainNet) (n : ℕ) (keep : List Bool) : Type 0 where
   pub size : length keep ≡ length net.links
   pub later : (k : ℕ) → n ≤ k → k < length net.links → Kept keep k
   pub stay : (k : ℕ) → k < n → Kept keep k → CanFailWith net (Beside (Kept keep) k) k

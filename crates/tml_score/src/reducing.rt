@@ -5,7 +5,7 @@ ghost use Rattle.net_core.specs.Walks.{Kept};
 ghost use Rattle.std.specs.Prelude.{IfOk, OnOk, length, ◌<◌};
 ghost use Rattle.tml_score.specs.Graph.{IsGraphOf};
 ghost use Rattle.tml_score.specs.Reduced.{IsReduced};
-ghost use Rattle.tml_score.specs.Reducing.{AreGoneOver, DecidesLink};
+ghost use Rattle.tml_score.specs.Reducing.{AreDecided, DecidesLink};
 ghost use Rattle.tml_score.specs.Search.{Decides, HaveRoom, IsAsked, IsReady, basis_of};
 ghost use Rattle.tml_score.specs.Trees.{AreTrees};
 
@@ -57,7 +57,7 @@ fn marks(alloc: Global, net: &Net, table: &Closed, graph: &Graph) -> Result<Vec<
     requires closure { IsClosureOf net.now table.now }
     requires fits { HasTimeline net.now }
     requires graph { IsGraphOf net.now graph.now }
-    ensures { IfOk result (λ keep. AreGoneOver net.now (length net.now.links) keep.items) }
+    ensures { IfOk result (λ keep. AreDecided net.now (length net.now.links) keep.items) }
 {
     let mut keep = vec![in alloc; true; net.links() as usize]?;
     let mut sides = Sides {

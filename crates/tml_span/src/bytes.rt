@@ -43,7 +43,7 @@ const NAME_BYTES: [bool; 256] = [
 fn is_name_byte(b: u8) -> bool
     ensures { result ≡ kinds.is_name_byte b }
 {
-    NAME_BYTES[b as usize]
+    NAME_BYTES[usize::from(b)]
 }
 
 pub fn white_len(bytes: &[u8]) -> usize
@@ -83,10 +83,8 @@ pub fn index_of(b: u8, bytes: &[u8]) -> Option<usize>
     if let Some(index) = position_of(b, near) {
         return Some(index);
     }
-    match memchr::memchr(b, far) {
-        Some(ahead) => Some(few + ahead),
-        None => None,
-    }
+    let ahead = memchr::memchr(b, far)?;
+    Some(few + ahead)
 }
 
 /// A text is mostly long, so it is searched for the `<` that ends it.

@@ -58,13 +58,9 @@ fn check_tag(place: u32, bytes: &[u8]) -> Option<Checked<'_>>
     ensures unit { ChecksUnit place (codes "<" ++ bytes.now) result }
     ensures shorter { IfSome result (λ r. length r.rest.now ≤ length bytes.now) }
 {
-    let Some((name, mid)) = name_at(bytes) else {
-        return None;
-    };
+    let (name, mid) = name_at(bytes)?;
     let Checked { bad, rest: after } = check_attributes(place + 1 + name.len() as u32, mid);
-    let Some((_, rest)) = close_at(after_white(after)) else {
-        return None;
-    };
+    let (_, rest) = close_at(after_white(after))?;
     Some(Checked { bad, rest })
 }
 

@@ -51,9 +51,7 @@ pub fn comment_at<'s>(place: u32, bytes: &'s [u8]) -> Option<(Unit<'s>, &'s [u8]
     ensures unit { ReadsUnit place bytes.now result }
     ensures shorter { IfSome result (λ r. length r.1.now < length bytes.now) }
 {
-    let Some((text, rest)) = split_past(bytes, 4, b"-->") else {
-        return None;
-    };
+    let (text, rest) = split_past(bytes, 4, b"-->")?;
     let span = Span {
         start: place,
         end: place + text.len() as u32,
@@ -84,9 +82,7 @@ pub fn declaration_at<'s>(place: u32, bytes: &'s [u8]) -> Option<(Unit<'s>, &'s 
     if !begins_with_word(bytes, b"<?xml") {
         return None;
     }
-    let Some((text, rest)) = split_past(bytes, 6, b"?>") else {
-        return None;
-    };
+    let (text, rest) = split_past(bytes, 6, b"?>")?;
     let span = Span {
         start: place,
         end: place + text.len() as u32,
@@ -107,9 +103,7 @@ pub fn doctype_at<'s>(place: u32, bytes: &'s [u8]) -> Option<(Unit<'s>, &'s [u8]
     }
     let (_, inner) = bytes.split_at(10);
     let (_, end) = inner.split_at(doctype_len(inner));
-    let Some(rest) = end.strip_prefix(b">") else {
-        return None;
-    };
+    let rest = end.strip_prefix(b">")?;
     let (text, _) = bytes.split_at(bytes.len() - rest.len());
     let span = Span {
         start: place,

@@ -74,10 +74,8 @@ fn bad_place(start: u32, bytes: &[u8]) -> Option<u32>
     requires { start + length bytes.now < 2 ^ 32 }
     ensures { FirstBadIn ((start, bytes.now) ∷ []) result }
 {
-    match bad_reference(bytes) {
-        Some(index) => Some(start + index as u32),
-        None => None,
-    }
+    let index = bad_reference(bytes)?;
+    Some(start + index as u32)
 }
 
 /// The place of the first bad reference in a text.

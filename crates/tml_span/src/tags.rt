@@ -107,7 +107,7 @@ pub fn attribute_at<'s>(place: u32, bytes: &'s [u8]) -> Option<(Attr<'s>, &'s [u
 
 /// The attributes and one more. With the first one they get room.
 #[inline(always)]
-fn and_attribute<'s>(
+fn with_attribute<'s>(
     room: &mut Room<'s>,
     alloc: Global,
     attrs: List<Attr<'s>>,
@@ -139,7 +139,7 @@ fn attributes_at<'s>(
     let mut at = place;
     let mut rest = bytes;
     while let Some((attr, after)) = attribute_at(at, rest) {
-        attrs = and_attribute(room, alloc, attrs, attr)?;
+        attrs = with_attribute(room, alloc, attrs, attr)?;
         at += (rest.len() - after.len()) as u32;
         rest = after;
     }
@@ -198,12 +198,8 @@ pub fn end_tag_at<'s>(place: u32, bytes: &'s [u8]) -> Option<(Unit<'s>, &'s [u8]
     ensures unit { ReadsUnit place (codes "</" ++ bytes.now) result }
     ensures shorter { IfSome result (λ r. length r.1.now ≤ length bytes.now) }
 {
-    let Some((name, mid)) = name_at(bytes) else {
-        return None;
-    };
-    let Some(rest) = after_byte(b'>', after_white(mid)) else {
-        return None;
-    };
+    let (name, mid) = name_at(bytes)?;
+    let rest = after_byte(b'>', after_white(mid))?;
     let span = Span {
         start: place,
         end: place + (bytes.len() + 2 - rest.len()) as u32,

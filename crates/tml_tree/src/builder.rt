@@ -128,9 +128,7 @@ impl<'s> Builder<'s> {
         ensures err { IfErr result (λ e. RefusesUnit self.old (at_span span (units.comment text.now)) e) }
     {
         self.nesting.comment();
-        if push_node(&mut self.nodes, Node::Comment { span, text }).is_err() {
-            return Err(TreeFault::Memory);
-        }
+        push_node(&mut self.nodes, Node::Comment { span, text })?;
         Ok(())
     }
 
@@ -138,12 +136,8 @@ impl<'s> Builder<'s> {
         ensures ok { OnOk result (TakesUnit self.old (at_span span (units.text text.now)) self.new) }
         ensures err { IfErr result (λ e. RefusesUnit self.old (at_span span (units.text text.now)) e) }
     {
-        if let Err(fault) = self.nesting.text(span.start, text) {
-            return Err(fault);
-        }
-        if push_node(&mut self.nodes, Node::Text { span, text }).is_err() {
-            return Err(TreeFault::Memory);
-        }
+        self.nesting.text(span.start, text)?;
+        push_node(&mut self.nodes, Node::Text { span, text })?;
         Ok(())
     }
 
@@ -157,14 +151,9 @@ impl<'s> Builder<'s> {
         ensures ok { OnOk result (TakesUnit self.old (start_unit span name.now attrs.entry) self.new) }
         ensures err { IfErr result (λ e. RefusesUnit self.old (start_unit span name.now attrs.entry) e) }
     {
-        let name = match self.nesting.start(span.start, name) {
-            Ok(name) => name,
-            Err(fault) => return Err(fault),
-        };
+        let name = self.nesting.start(span.start, name)?;
         // The room for an element comes before the room for its children, so that a walk meets them in their order.
-        if reserve_node(&mut self.nodes).is_err() {
-            return Err(TreeFault::Memory);
-        }
+        reserve_node(&mut self.nodes)?;
         let before = mem::replace(&mut self.nodes, Vec::new(alloc));
         let frame = Frame {
             span,
@@ -172,9 +161,7 @@ impl<'s> Builder<'s> {
             attrs,
             before,
         };
-        if self.frames.push(frame).is_err() {
-            return Err(TreeFault::Memory);
-        }
+        self.frames.push(frame)?;
         Ok(())
     }
 
@@ -188,14 +175,9 @@ impl<'s> Builder<'s> {
         ensures ok { OnOk result (TakesUnit self.old (empty_unit span name.now attrs.entry) self.new) }
         ensures err { IfErr result (λ e. RefusesUnit self.old (empty_unit span name.now attrs.entry) e) }
     {
-        let name = match self.nesting.empty(span.start, name) {
-            Ok(name) => name,
-            Err(fault) => return Err(fault),
-        };
+        let name = self.nesting.empty(span.start, name)?;
         let node = make_element(span, name, attrs, Vec::new(alloc));
-        if push_node(&mut self.nodes, node).is_err() {
-            return Err(TreeFault::Memory);
-        }
+        push_node(&mut self.nodes, node)?;
         Ok(())
     }
 
@@ -207,18 +189,14 @@ impl<'s> Builder<'s> {
         let Some(frame) = self.frames.pop() else {
             return Err(TreeFault::Unbalanced { place: span.start });
         };
-        if let Err(fault) = self.nesting.end(span.start, name) {
-            return Err(fault);
-        }
+        self.nesting.end(span.start, name)?;
         let children = mem::replace(&mut self.nodes, frame.before);
         let whole = Span {
             start: frame.span.start,
             end: span.end,
         };
         let node = make_element(whole, frame.name, frame.attrs, children);
-        if push_node(&mut self.nodes, node).is_err() {
-            return Err(TreeFault::Memory);
-        }
+        push_node(&mut self.nodes, node)?;
         Ok(())
     }
 }

@@ -135,13 +135,8 @@ impl Nesting {
         ensures ok { OnOk result (Passes self.old (units.start_tag name.now []) self.new) }
         ensures err { IfErr result (Refuses self.old (units.start_tag name.now []) place) }
     {
-        let tag = match self.tag(place, name) {
-            Ok(tag) => tag,
-            Err(fault) => return Err(fault),
-        };
-        if self.open.push(tag).is_err() {
-            return Err(TreeFault::Memory);
-        }
+        let tag = self.tag(place, name)?;
+        self.open.push(tag)?;
         self.begun = true;
         self.tagged = true;
         self.seen = false;
@@ -154,10 +149,7 @@ impl Nesting {
         ensures ok { OnOk result (Passes self.old (units.empty_tag name.now []) self.new) }
         ensures err { IfErr result (Refuses self.old (units.empty_tag name.now []) place) }
     {
-        let tag = match self.tag(place, name) {
-            Ok(tag) => tag,
-            Err(fault) => return Err(fault),
-        };
+        let tag = self.tag(place, name)?;
         self.begun = true;
         self.tagged = true;
         self.seen = self.open.is_empty();

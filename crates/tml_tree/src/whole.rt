@@ -4,12 +4,13 @@ ghost use Rattle.tml_span.specs.View.{unit_of};
 ghost use Rattle.tml_tree.specs.Trees.{Document};
 ghost use Rattle.tml_tree.specs.Whole.{UnitsFault};
 ghost use Rattle.tml_tree.specs.Whole as whole;
+ghost use Rattle.tml_tree.specs.declared.whole.TreeFault.TheVariants as faults;
 ghost use Rattle.tml_tree.specs.View.{tag_node};
 
 use crate::Tag;
 use crate::builder::Builder;
 use faults::{FaultKind, write_fault};
-use std::alloc::Global;
+use std::alloc::{AllocError, AllocFailed, Global};
 use std::error::Error;
 use std::fmt;
 use tml_span::Unit;
@@ -58,6 +59,22 @@ impl fmt::Display for TreeFault {
 
 impl Error for TreeFault {}
 
+impl From<AllocError> for TreeFault {
+    ghost from_gives = { λ _ e. e ≡ faults.Memory };
+
+    fn from(_e: AllocError) -> TreeFault {
+        TreeFault::Memory
+    }
+}
+
+impl<T: Drop> From<AllocFailed<T>> for TreeFault {
+    ghost from_gives = { λ _ e. e ≡ faults.Memory };
+
+    fn from(_e: AllocFailed<T>) -> TreeFault {
+        TreeFault::Memory
+    }
+}
+
 /// The root of the document that the units make. The source of the units has this length.
 pub fn root<'s>(alloc: Global, length: u32, units: Vec<Unit<'s>>) -> Result<Tag<'s>, TreeFault>
     ensures ok { IfOk result (λ t. Document (tag_node t) (map unit_of units.entry.items)) }
@@ -65,9 +82,7 @@ pub fn root<'s>(alloc: Global, length: u32, units: Vec<Unit<'s>>) -> Result<Tag<
 {
     let mut builder = Builder::new(alloc);
     for unit in units {
-        if let Err(fault) = builder.take(alloc, unit) {
-            return Err(fault);
-        }
+        builder.take(alloc, unit)?;
     }
     match builder.finish() {
         Some(root) => Ok(root),

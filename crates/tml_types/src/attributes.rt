@@ -279,5 +279,5 @@ const ID_BYTES: [bool; 256] = [
 fn is_id_byte(b: u8) -> bool
     ensures { result ≡ values.is_id_byte b }
 {
-    ID_BYTES[b as usize]
+    ID_BYTES[usize::from(b)]
 }

@@ -13,7 +13,7 @@ abbrev Thinned : PlainNet → ℕ → ℕ → ClosedWalk → Type 0
 Thinned net needed n closed =
     IsMarkedWalk net closed × IsSpared net (Kept closed.over.items) needed × ((k : ℕ) → k < n → Kept closed.over.items k → IsSpared net (Kept closed.over.items) k)
 
--- one link more, which is needed or not gone over
+-- one link more, which is needed, or which the walk does not go over
 one_more : (net : PlainNet) (needed n : ℕ) (closed : ClosedWalk) → Thinned net needed n closed → (Kept closed.over.items n → IsSpared net (Kept closed.over.items) n) → Thinned net needed (n + 1) closed
 one_more net needed n closed thinned last = (
   thinned.0,

@@ -3,7 +3,7 @@ use Rattle.net_core.specs.Walks.{Kept}
 use Rattle.clash.specs.Minimal.{IsMarkedWalk, IsSpared}
 use Rattle.clash.proofs.closed_walk.thin.Given as goal
 
--- the links so far that are still gone over are needed
+-- the links so far that the walk still goes over are needed
 abbrev pub invariant-loop-link : goal.invariant-loop-link
 invariant-loop-link l = record {
   end : l.link-end ≡ length l.net.links;

@@ -14,8 +14,8 @@ loop-len-preserved c =
     let rest = c.loop-len.rest.now in
     let len = get_or c.args.lens.now c.loop-len.len-index 0 in
     let runs = runs_on c.args.lens.now c.loop-len.len-index rest (omega (arith, c.loop-len-test.true)) so_far.runs in
-    let front = c.split_at.ensures.front in
-    let back = c.split_at.ensures.back in
+    let front = rw c.from.ensures at c.split_at.ensures.front in
+    let back = rw c.from.ensures at c.split_at.ensures.back in
     let two : All Kept rest ↔ (All Kept c.split_at.result.0.now × All Kept c.split_at.result.1.now) = rw (front, back) (in_two Kept len rest) in
     record {
       within = subst (All (IsPairWithin c.args.order (length c.args.ranks.now))) (sym back) (All-drop (IsPairWithin c.args.order (length c.args.ranks.now)) len rest so_far.within);

@@ -12,7 +12,7 @@ returns-in_err-link c =
 
 pub loop-left-preserved : goal.loop-left-preserved
 loop-left-preserved c =
-    rw (c.in_ok-push.ensures.ok) (cites_go_on c.loop-left.cites c.loop-left.left (c.loop-left.left - 1) c.loop-left.least (lines_of c.loop-left.rest.now) c.in_ok-link.link (lines_of c.in_ok-link.after.now) (cites_at c.args.count 0 (lines_of c.args.text.now)) (omega arith) c.in_ok-link.ensures c.loop-left.invariant)
+    rw (c.in_ok-push.ensures.ok, c.from-least.ensures) (cites_go_on c.loop-left.cites c.loop-left.left (c.loop-left.left - 1) c.loop-left.least (lines_of c.loop-left.rest.now) c.in_ok-link.link (lines_of c.in_ok-link.after.now) (cites_at c.args.count 0 (lines_of c.args.text.now)) (omega arith) c.in_ok-link.ensures c.loop-left.invariant)
 
 pub returns : goal.returns
 returns c = cites_done c.loop-left.cites c.loop-left.left c.loop-left.least (lines_of c.loop-left.rest.now) (cites_at c.args.count 0 (lines_of c.args.text.now)) (omega arith) c.loop-left.invariant

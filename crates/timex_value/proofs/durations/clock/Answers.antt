@@ -9,7 +9,7 @@ pub returns-then-not-is_empty : goal.returns-then-not-is_empty
 returns-then-not-is_empty c = λ h m s k. elim k [
   | inl e ↦ grind (arith, nat_tests)
   | inr e ↦
-      let same = tail_is (sym e.1.1 ∙ c.in-Some.ensures) in
+      let same = tail_is (sym e.1.1 ∙ c.in_ok-text.ensures) in
       let read = clock_read _ _ _ h m s _ _ (_, c.count_at-hours.ensures, (_, c.count_at-minutes.ensures, (_, c.count_at-seconds.ensures, refl))) (subst (λ x. ClockThen h m s x []) same e.1.2) in
       let none = read.1 in
       grind (arith, nat_tests)

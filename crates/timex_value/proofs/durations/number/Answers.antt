@@ -32,13 +32,13 @@ pub overflow_mul-n : goal.overflow_mul-n
 overflow_mul-n c = omega (arith, c.loop-b.invariant, next_below c.args.digits.now c.loop-b.b-index c.requires.digits c.requires.few (omega arith))
 
 pub overflow_add-n : goal.overflow_add-n
-overflow_add-n c = omega (arith, c.loop-b.invariant, next_below c.args.digits.now c.loop-b.b-index c.requires.digits c.requires.few (omega arith))
+overflow_add-n c = omega (arith, c.from.ensures, c.loop-b.invariant, next_below c.args.digits.now c.loop-b.b-index c.requires.digits c.requires.few (omega arith))
 
 pub loop-b-preserved : goal.loop-b-preserved
-loop-b-preserved c = ap (λ n. n * 10 + (get_or c.args.digits.now c.loop-b.b-index 0 - 48)) c.loop-b.invariant ∙ sym (next c.args.digits.now c.loop-b.b-index c.requires.digits (omega arith))
+loop-b-preserved c = rw c.from.ensures (ap (λ n. n * 10 + (get_or c.args.digits.now c.loop-b.b-index 0 - 48)) c.loop-b.invariant ∙ sym (next c.args.digits.now c.loop-b.b-index c.requires.digits (omega arith)))
 
 pub returns : goal.returns
 returns c = c.loop-b.invariant ∙ ap (λ xs. digits_value 10 xs) (take_all c.loop-b.b-index c.args.digits.now (omega arith))
 
-pub overflow_sub-n : goal.overflow_sub-n
-overflow_sub-n c = let range = digit_at c.args.digits.now c.loop-b.b-index c.requires.digits (omega arith) in omega arith
+pub overflow_sub-b : goal.overflow_sub-b
+overflow_sub-b c = let range = digit_at c.args.digits.now c.loop-b.b-index c.requires.digits (omega arith) in omega arith

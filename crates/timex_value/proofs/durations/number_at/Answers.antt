@@ -8,10 +8,10 @@ returns-then-is_empty c = λ n rest h.
     let read = number_read c.args.unit n c.args.text.now rest c.requires h in
     elim c.then-is_empty.either [ inl e ↦ grind (arith, nat_tests) | inr e ↦ grind (arith, nat_tests) ]
 
-pub returns-in_default : goal.returns-in_default
-returns-in_default c = λ n rest h.
+pub returns-in_err-rest : goal.returns-in_err-rest
+returns-in_err-rest c = rw c.from_residual.ensures (λ n rest h.
     let read = number_read c.args.unit n c.args.text.now rest c.requires h in
-    c.in_default.ensures rest (c.split_at.ensures.back ∙ (ap (λ n. drop n c.args.text.now) c.digits_len.ensures.len ∙ read.1))
+    c.in_err-rest.ensures rest (c.split_at.ensures.back ∙ (ap (λ n. drop n c.args.text.now) c.digits_len.ensures.len ∙ read.1)))
 
 pub number-requires-clause-digits : goal.number-requires-clause-digits
 number-requires-clause-digits c = rw (c.split_at.ensures.front, c.digits_len.ensures.len) (digits_pass c.args.text.now)
@@ -21,4 +21,4 @@ returns c =
     let len = c.digits_len.ensures.len in
     let digits = c.split_at.ensures.front ∙ ap (λ n. take n c.args.text.now) len in
     let tail = c.split_at.ensures.back ∙ ap (λ n. drop n c.args.text.now) len in
-    number_is c.args.unit c.number.result c.args.text.now c.split_at.result.0.now c.split_at.result.1.now c.in-Some.rest.now digits tail (grind (arith, nat_tests), omega arith) c.number.ensures c.in-Some.ensures
+    number_is c.args.unit c.number.result c.args.text.now c.split_at.result.0.now c.split_at.result.1.now c.in_ok-rest.rest.now digits tail (grind (arith, nat_tests), omega arith) c.number.ensures c.in_ok-rest.ensures

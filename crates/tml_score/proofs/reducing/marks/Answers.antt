@@ -2,11 +2,11 @@ use Rattle.std.proofs.Common.{◌≡◌, ◌+◌, ◌<◌, ℕ, Bool, true, fals
 use Rattle.net_core.specs.Nets.{PlainNet}
 use Rattle.order_closure.specs.Tables.{Table}
 use Rattle.tml_score.specs.Reached.{PlainReached}
-use Rattle.tml_score.specs.Reducing.{AreGoneOver, DecidesLink}
+use Rattle.tml_score.specs.Reducing.{AreDecided, DecidesLink}
 use Rattle.tml_score.specs.Search.{Basis}
 use Rattle.tml_score.specs.Trees.{AreTrees}
 use Rattle.tml_score.specs.declared.graph.Graph.{Graph}
-use Rattle.tml_score.proofs.Redundancy.{gone_over_left, gone_over_stays, none_gone_over}
+use Rattle.tml_score.proofs.Redundancy.{decided_left_out, decided_kept, none_decided}
 use Rattle.tml_score.proofs.TreeLaws.{ready_so_far}
 use Rattle.tml_score.proofs.reducing.marks.Goals as goal
 use Rattle.tml_score.proofs.reducing.marks.Goals.{then-branch, else-branch}
@@ -19,7 +19,7 @@ pub new-requires-3 : goal.new-requires-3
 new-requires-3 c =
     let net = c.args.net.now in
     let all : c.deref.result.now ≡ replicate (length net.links) true = c.deref.ensures.value ∙ c.in_ok-keep.ensures.items_if_clones_equal (λ y e. e) ∙ ap (λ (n : ℕ). replicate n true) c.links.ensures.count in
-    ready_so_far (with_marks net c.args.table.now c.args.graph.now c.deref.result.now) 0 c.links.ensures.net c.requires.fits c.requires.closure c.requires.graph (subst (AreGoneOver net 0) (sym all) (none_gone_over net))
+    ready_so_far (with_marks net c.args.table.now c.args.graph.now c.deref.result.now) 0 c.links.ensures.net c.requires.fits c.requires.closure c.requires.graph (subst (AreDecided net 0) (sym all) (none_decided net))
 
 pub loop-link-init : goal.loop-link-init
 loop-link-init c =
@@ -32,14 +32,14 @@ loop-link-init c =
         ap (λ (r : PlainReached). r.room) c.in_ok-new-2.ensures ∙ c.points-2.ensures.points ∙ c.requires.closure.size,
       );
       trees = subst (λ (ks : List Bool). AreTrees (with_marks net c.args.table.now c.args.graph.now ks) c.in_ok-trees.trees) c.deref.ensures.value c.in_ok-trees.ensures;
-      so_far = subst (AreGoneOver net 0) (sym all) (none_gone_over net);
+      so_far = subst (AreDecided net 0) (sym all) (none_decided net);
     }
 
 pub refresh-requires-clause-ready : goal.refresh-requires-clause-ready
 refresh-requires-clause-ready c =
     let net = c.args.net.now in
     ready_so_far (with_marks net c.args.table.now c.args.graph.now c.deref-in-loop-link.result.now) c.loop-link.link c.links.ensures.net c.requires.fits c.requires.closure c.requires.graph
-    (subst (AreGoneOver net c.loop-link.link) (sym c.deref-in-loop-link.ensures.value) c.loop-link.invariant.so_far)
+    (subst (AreDecided net c.loop-link.link) (sym c.deref-in-loop-link.ensures.value) c.loop-link.invariant.so_far)
 
 pub refresh-requires-clause-trees : goal.refresh-requires-clause-trees
 refresh-requires-clause-trees c =
@@ -49,7 +49,7 @@ pub link_follows-requires : goal.link_follows-requires
 link_follows-requires c =
     let net = c.args.net.now in
     let link = c.loop-link.link in
-    let so_far : AreGoneOver net link c.deref-in-loop-link.result.now = subst (AreGoneOver net link) (sym c.deref-in-loop-link.ensures.value) c.loop-link.invariant.so_far in
+    let so_far : AreDecided net link c.deref-in-loop-link.result.now = subst (AreDecided net link) (sym c.deref-in-loop-link.ensures.value) c.loop-link.invariant.so_far in
     let below : link < length net.links = omega (arith, c.loop-link-test.true, c.loop-link.invariant.end) in
     record {
       ready = ready_so_far (with_marks net c.args.table.now c.args.graph.now c.deref-in-loop-link.result.now) link c.links.ensures.net c.requires.fits c.requires.closure c.requires.graph so_far;
@@ -78,7 +78,7 @@ loop-link-preserved c =
             end = was.end;
             room = c.in_ok-link_follows.ensures.room;
             trees = subst (λ (ks : List Bool). AreTrees (basis ks) c.if-branch.trees) (sym now) (subst (AreTrees (basis (slice_set keep link false))) (sym w.trees-is) cut);
-            so_far = subst (AreGoneOver net (link + 1)) (sym now) (gone_over_left net link keep was.so_far below (subst (DecidesLink net keep link) w.if-branch.true decides));
+            so_far = subst (AreDecided net (link + 1)) (sym now) (decided_left_out net link keep was.so_far below (subst (DecidesLink net keep link) w.if-branch.true decides));
           }
       | else-branch w ↦
           let now : c.if-branch.keep.items ≡ keep = ap (λ v. v.items) w.keep-is in
@@ -86,11 +86,11 @@ loop-link-preserved c =
             end = was.end;
             room = c.in_ok-link_follows.ensures.room;
             trees = subst (λ (ks : List Bool). AreTrees (basis ks) c.if-branch.trees) (sym now) (subst (AreTrees (basis keep)) (sym w.trees-is) trees);
-            so_far = subst (AreGoneOver net (link + 1)) (sym now) (gone_over_stays net link keep was.so_far below (subst (DecidesLink net keep link) w.if-branch.false decides));
+            so_far = subst (AreDecided net (link + 1)) (sym now) (decided_kept net link keep was.so_far below (subst (DecidesLink net keep link) w.if-branch.false decides));
           }
     ]
 
 pub returns : goal.returns
 returns c =
     let end : c.loop-link.link ≡ length c.args.net.now.links = omega arith in
-    subst (λ (n : ℕ). AreGoneOver c.args.net.now n c.loop-link.keep.items) end c.loop-link.invariant.so_far
+    subst (λ (n : ℕ). AreDecided c.args.net.now n c.loop-link.keep.items) end c.loop-link.invariant.so_far

@@ -8,16 +8,16 @@ returns-in-Some c =
     let within : c.min-few.result ≤ length c.args.bytes.now = omega (arith, c.min-few.ensures) in
     first_near (is_byte c.args.b) c.args.bytes.now c.min-few.result c.in-Some.index within (subst (λ (near : List ℕ). IsFirstByte (is_byte c.args.b) near (Some c.in-Some.index)) c.split_at.ensures.front c.in-Some.ensures)
 
-pub returns-in-Some-memchr : goal.returns-in-Some-memchr
-returns-in-Some-memchr c =
+pub returns : goal.returns
+returns c =
     let within : c.min-few.result ≤ length c.args.bytes.now = omega (arith, c.min-few.ensures) in
-    first_far (is_byte c.args.b) c.args.bytes.now c.min-few.result c.in-Some-memchr.ahead within
+    first_far (is_byte c.args.b) c.args.bytes.now c.min-few.result c.in_ok-ahead.ahead within
     (subst (λ (near : List ℕ). IsFirstByte (is_byte c.args.b) near None) c.split_at.ensures.front c.in_default.ensures)
-    (subst (λ (far : List ℕ). IsFirstByte (is_byte c.args.b) far (Some c.in-Some-memchr.ahead)) c.split_at.ensures.back c.in-Some-memchr.ensures)
+    (subst (λ (far : List ℕ). IsFirstByte (is_byte c.args.b) far (Some c.in_ok-ahead.ahead)) c.split_at.ensures.back c.in_ok-ahead.ensures)
 
-pub returns-in-None : goal.returns-in-None
-returns-in-None c =
+pub returns-in_err-ahead : goal.returns-in_err-ahead
+returns-in_err-ahead c =
     let within : c.min-few.result ≤ length c.args.bytes.now = omega (arith, c.min-few.ensures) in
-    none_far (is_byte c.args.b) c.args.bytes.now c.min-few.result within
+    rw c.from_residual.ensures (none_far (is_byte c.args.b) c.args.bytes.now c.min-few.result within
     (subst (λ (near : List ℕ). IsFirstByte (is_byte c.args.b) near None) c.split_at.ensures.front c.in_default.ensures)
-    (subst (λ (far : List ℕ). IsFirstByte (is_byte c.args.b) far None) c.split_at.ensures.back c.in-None.ensures)
+    (subst (λ (far : List ℕ). IsFirstByte (is_byte c.args.b) far None) c.split_at.ensures.back c.in_err-ahead.ensures))

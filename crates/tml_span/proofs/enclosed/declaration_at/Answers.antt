@@ -6,5 +6,5 @@ pub returns-then-not-begins_with_word-clause-unit : goal.returns-then-not-begins
 returns-then-not-begins_with_word-clause-unit c =
     declaration_unnamed _ _ (lead_declaration c.args.bytes.now c.requires.prefix) (λ h. false≢true (c.if-not-begins_with_word.ensures.1 h))
 
-pub returns-in_default-clause-unit : goal.returns-in_default-clause-unit
-returns-in_default-clause-unit c = declaration_unclosed _ _ (lead_declaration c.args.bytes.now c.requires.prefix) c.in_default.ensures.none
+pub returns-in_err-text-clause-unit : goal.returns-in_err-text-clause-unit
+returns-in_err-text-clause-unit c = rw c.from_residual.ensures (declaration_unclosed _ _ (lead_declaration c.args.bytes.now c.requires.prefix) c.in_err-text.ensures.none)

@@ -1,5 +1,6 @@
 use Rattle.std.proofs.Common.{◌≡◌, [], ◌∷◌, ◌++◌, inr, refl, sym, ap, ◌∙◌, length, append_assoc, append-nil, arith}
 use Rattle.std.proofs.lemmas.List.{map-append}
+use Rattle.std.proofs.lemmas.Result.{err_from_is_err_and}
 use Rattle.std.specs.Vec.Iter.{into_iter_items}
 use Rattle.tml_span.specs.View.{unit_of}
 use Rattle.tml_tree.proofs.Passing.{refused}
@@ -20,15 +21,16 @@ loop-unit-preserved c =
           let gone = c.in-Some.ensures.steps.1 in
           let short = ap length steps in
           omega arith;
-      taken = rw (map-append unit_of at.yielded (c.in-Some.unit ∷ [])) (taken_more _ _ at.builder c.take.new.self at.invariant.taken c.in_default.ensures.ok);
+      taken = rw (map-append unit_of at.yielded (c.in-Some.unit ∷ [])) (taken_more _ _ at.builder c.take.new.self at.invariant.taken c.in_ok-take.ensures.ok);
     }
 
-pub returns-in-Err-clause-fault : goal.returns-in-Err-clause-fault
-returns-in-Err-clause-fault c =
+pub returns-in_err-take-clause-fault : goal.returns-in_err-take-clause-fault
+returns-in_err-take-clause-fault c =
     let at = c.loop-unit in
+    let p = err_from_is_err_and c.from_residual.result c.from_residual.ensures.1 in
     let whole : at.yielded ++ (c.in-Some.unit ∷ into_iter_items c.next.new.self) ≡ c.args.units.items = rw (← c.in-Some.ensures.steps.0) (at.invariant.items ∙ c.into_iter-unit-iterator.ensures.into_iter_gives.0) in
-    rw (← whole, map-append unit_of at.yielded (c.in-Some.unit ∷ into_iter_items c.next.new.self))
-    (refused c.args.length _ _ _ _ _ at.builder.nesting _ at.invariant.taken c.in-Err.ensures.err)
+    rw (p.1, p.2, ← whole, map-append unit_of at.yielded (c.in-Some.unit ∷ into_iter_items c.next.new.self))
+    (refused c.args.length _ _ _ _ _ at.builder.nesting _ at.invariant.taken c.in_err-take.ensures.err)
 
 pub returns-in-None-finish-clause-fault : goal.returns-in-None-finish-clause-fault
 returns-in-None-finish-clause-fault c =

@@ -11,6 +11,6 @@ returns-clause-ok c =
     let rest = c.pop.new.self.items in
     let old : c.args.self.now.frames.items ≡ rest ++ frame ∷ [] = grind (arith, common_steps) in
     let names = c.requires ∙ ap names_of old ∙ frame_names_more rest frame in
-    let passes = c.in_default-end.ensures.ok in
+    let passes = c.in_ok-end.ensures.ok in
     let same = ends_innermost c.args.self.now.nesting (names_of rest) _ c.args.name.now names passes.0 in
     (passes, closed_is _ rest frame _ _ _ _ old same (grind (arith, common_steps)))

@@ -10,7 +10,6 @@ use Rattle.tml_tree.proofs.nesting.Nesting.start.Goals as goal
 
 pub invariant_of-self-2 : goal.invariant_of-self-2
 invariant_of-self-2 c =
-    let items : c.push.new.self.items ≡ c.self.inside.open.items ++ c.in-Ok.tag ∷ [] = grind (arith, common_steps) in
-    let may_begin = rw c.in-Ok.is at c.tag.ensures in
-    let no_link = subst (λ (h : History). list_any is_link h.names ≡ false) (sym c.self.view_is) (outside c.args.self.now c.args.name.now may_begin.0) in
-    subst (λ (ns : List (List ℕ)). OnlyInnermost ns) (sym (ap names_in items ∙ names_more c.self.inside.open.items c.in-Ok.tag)) no_link
+    let items : c.push.new.self.items ≡ c.self.inside.open.items ++ c.in_ok-tag.tag ∷ [] = grind (arith, common_steps) in
+    let no_link = subst (λ (h : History). list_any is_link h.names ≡ false) (sym c.self.view_is) (outside c.args.self.now c.args.name.now c.in_ok-tag.ensures.0) in
+    subst (λ (ns : List (List ℕ)). OnlyInnermost ns) (sym (ap names_in items ∙ names_more c.self.inside.open.items c.in_ok-tag.tag)) no_link
