@@ -13,7 +13,8 @@ use std::alloc::{AllocError, Global};
 use tml_accept::Fault;
 use tml_io::List;
 use tml_refs::Resolver;
-use tml_types::{Judged, TagReader};
+use tml_span::Unit;
+use tml_types::{TagReader, TypedTag};
 
 /// The canonical text of a document that has no fault in any of the five phases: what `canon` gives for its tree. No tree
 /// is built: the units are written as they are judged, and the document is cut once.
@@ -47,13 +48,13 @@ struct Taken<'s> {
 
 impl<'s> Taken<'s> {
     /// Writes one more unit, and takes the typed tag that it begins.
-    fn take(&mut self, judged: &Judged<'s>) -> Result<(), Memory>
-        requires { MayTakeTag self.old.resolver judged.now.tag }
-        ensures written { OnOk result (Writes self.old.writer (unit_of judged.now.unit).kind self.new.writer) }
-        ensures taken { OnOk result (TakesTag self.old.resolver judged.now.tag self.new.resolver) }
+    fn take(&mut self, unit: &Unit<'s>, tag: &Option<TypedTag<'s>>) -> Result<(), Memory>
+        requires { MayTakeTag self.old.resolver tag.now }
+        ensures written { OnOk result (Writes self.old.writer (unit_of unit.now).kind self.new.writer) }
+        ensures taken { OnOk result (TakesTag self.old.resolver tag.now self.new.resolver) }
     {
-        self.writer.take(&judged.unit)?;
-        match &judged.tag {
+        self.writer.take(unit)?;
+        match tag {
             Some(tag) => self.resolver.take(tag),
             None => Ok(()),
         }
@@ -74,13 +75,14 @@ fn take_all<'s>(alloc: Global, doc: &'s [u8]) -> Result<Taken<'s>, Fault>
         resolver: Resolver::new(alloc),
         writer: Writer::new(alloc),
     };
+    let mut tag = None;
     loop {
-        match tags.pull_unit(alloc) {
-            Ok(Some(judged)) => {
-                if taken.take(&judged).is_err() {
+        match tags.pull_unit(alloc, &mut tag) {
+            Ok(Some(unit)) => {
+                if taken.take(&unit, &tag).is_err() {
                     return Err(tags.out_of_memory().kind_and_place());
                 }
-                tags.take_back(judged.unit);
+                tags.take_back(unit);
             }
             Ok(None) => return Ok(taken),
             Err(fault) => return Err(fault.kind_and_place()),

@@ -6,6 +6,7 @@ use Rattle.faults.specs.declared.kind.FaultKind.{FaultKind}
 use Rattle.tml_span.specs.Cutter.{HasCut}
 use Rattle.tml_span.specs.Faults.{HasCutFault, cut_kind_and_place}
 use Rattle.tml_span.specs.Units.{PlainUnit}
+use Rattle.tml_span.specs.declared.unit.Unit.{Unit}
 use Rattle.tml_span.specs.View.{unit_of}
 use Rattle.tml_span.specs.Whole.{IsWhole}
 use Rattle.tml_tree.specs.declared.whole.TreeFault.{TreeFault}
@@ -18,7 +19,6 @@ use Rattle.tml_tree.specs.Trees.{Document}
 use Rattle.tml_tree.specs.Walking.{PlainTag, elements, tags_of}
 use Rattle.tml_tree.specs.Whole.{HasTreeFault, kind_and_place as tree_kind_and_place}
 use Rattle.tml_types.specs.declared.tag_reader.Begun.{Begun}
-use Rattle.tml_types.specs.declared.tag_reader.Judged.{Judged}
 use Rattle.tml_types.specs.declared.tag_reader.SourceFault.{SourceFault}
 use Rattle.tml_types.specs.declared.tag_reader.SourceFault.TheVariants.{Cut, Tree, Tag}
 use Rattle.tml_types.specs.declared.tag_reader.TagReader.{TagReader}
@@ -83,16 +83,16 @@ abbrev pub OfUnits : List ℕ → List PlainUnit → (List PlainTag → Type 0) 
 OfUnits source us Fact = (root : PlainNode) × IsWhole (record { source = source; units = us }) × Document root us × Fact (elements root)
 
 -- the typed tags and that of one more unit, if it begins one
-abbrev pub typed_with : List PlainTyped → Judged → List PlainTyped
-typed_with typed j = typed ++ map typed_of (option_to_list j.tag)
+abbrev pub typed_with : List PlainTyped → Option TypedTag → List PlainTyped
+typed_with typed tag = typed ++ map typed_of (option_to_list tag)
 
 -- What a pull of a unit gives: one more, which has no fault, with its typed tag, or none where all units were given and make a tree, or the fault of the source.
-abbrev pub GivesJudged : TagReader → TagReader → Result (Option Judged) SourceFault → Type 0
-GivesJudged old new (Ok (Some j)) = Passes old.nesting (unit_of j.unit).kind new.nesting
+abbrev pub GivesJudged : TagReader → TagReader → Option TypedTag → Result (Option Unit) SourceFault → Type 0
+GivesJudged old new tag (Ok (Some unit)) = Passes old.nesting (unit_of unit).kind new.nesting
     × ((source : List ℕ) (us : List PlainUnit) (typed : List PlainTyped) → HasJudged source us typed old
-    → HasJudged source (us ++ unit_of j.unit ∷ []) (typed_with typed j) new × HaveRisingPlaces (typed_with typed j))
-GivesJudged old new (Ok None) = (source : List ℕ) (us : List PlainUnit) (typed : List PlainTyped) → HasJudged source us typed old → OfUnits source us (λ tags. Types tags typed)
-GivesJudged old new (Err fault) = (source : List ℕ) (us : List PlainUnit) (typed : List PlainTyped) → HasJudged source us typed old → HasSourceFault source fault
+    → HasJudged source (us ++ unit_of unit ∷ []) (typed_with typed tag) new × HaveRisingPlaces (typed_with typed tag))
+GivesJudged old new tag (Ok None) = (source : List ℕ) (us : List PlainUnit) (typed : List PlainTyped) → HasJudged source us typed old → OfUnits source us (λ tags. Types tags typed)
+GivesJudged old new tag (Err fault) = (source : List ℕ) (us : List PlainUnit) (typed : List PlainTyped) → HasJudged source us typed old → HasSourceFault source fault
 
 -- no tag is open, and the root was seen whole
 abbrev pub is_complete : History → Bool

@@ -53,15 +53,6 @@ impl fmt::Display for SourceFault {
 
 impl Error for SourceFault {}
 
-/// A unit of a source, and the typed tag that it begins, if it begins one.
-#[derive(Drop)]
-pub struct Judged<'s> {
-    /// The unit.
-    pub unit: Unit<'s>,
-    /// Its typed tag.
-    pub tag: Option<TypedTag<'s>>,
-}
-
 /// Gives the typed tags of a source one by one, in document order, as its units are read.
 #[derive(Drop)]
 pub struct TagReader<'s> {
@@ -131,14 +122,19 @@ impl<'s> TagReader<'s> {
         }
     }
 
-    /// The next unit, which breaks no rule, with its typed tag. None comes where all were given, as from `pull`.
+    /// The next unit, which breaks no rule. None comes where all were given, as from `pull`. The typed tag that it begins,
+    /// if it begins one, is left in `tag`: as a part of the answer it would be copied three times.
     ///
     /// # Errors
     ///
     /// Those of `pull`.
     #[inline(always)]
-    pub fn pull_unit(&mut self, alloc: Global) -> Result<Option<Judged<'s>>, SourceFault>
-        ensures gives { GivesJudged self.old self.new result }
+    pub fn pull_unit(
+        &mut self,
+        alloc: Global,
+        tag: &mut Option<TypedTag<'s>>,
+    ) -> Result<Option<Unit<'s>>, SourceFault>
+        ensures gives { GivesJudged self.old self.new tag.new result }
         ensures moves { MovesOn self.old self.new result }
     {
         let unit = match self.units.pull(alloc) {
@@ -155,11 +151,19 @@ impl<'s> TagReader<'s> {
             Ok(begun) => begun,
             Err(fault) => return Err(self.refusal(fault)),
         };
-        let Some(tag) = begun else {
-            return Ok(Some(Judged { unit, tag: None }));
+        let Some(begun) = begun else {
+            *tag = None;
+            return Ok(Some(unit));
         };
-        match type_one(&mut self.names, tag.name, tag.of) {
-            Ok(tag) => Ok(Some(Judged { unit, tag })),
+        match type_one(&mut self.names, begun.name, begun.of) {
+            Ok(None) => {
+                *tag = None;
+                Ok(Some(unit))
+            }
+            Ok(typed) => {
+                *tag = typed;
+                Ok(Some(unit))
+            }
             Err(fault) => Err(self.fault_with(alloc, fault)),
         }
     }

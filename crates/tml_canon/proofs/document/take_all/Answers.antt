@@ -12,34 +12,35 @@ use Rattle.tml_canon.proofs.Taking.{may_take, tag_taken}
 use Rattle.tml_canon.proofs.WrittenUnits.{units_more}
 use Rattle.tml_canon.proofs.document.take_all.Goals as goal
 
-pub loop-judged-init : goal.loop-judged-init
-loop-judged-init c =
+pub loop-unit-init : goal.loop-unit-init
+loop-unit-init c =
     let (given, is) = c.in-Ok.ensures.begins in
     record { us = []; typed = []; given = given; taken = c.new-2.ensures; written = subst (λ (h : History). HasWrittenUnits [] h c.new-3.result) (sym is) c.new-3.ensures }
 
 pub take-requires : goal.take-requires
 take-requires c =
-    let so_far = c.loop-judged.invariant in
+    let so_far = c.loop-unit.invariant in
     let gives = rw c.in-Ok-Some.field-0-is at c.in-Ok-Some.ensures.gives in
-    may_take so_far.typed c.in-Ok-Some.judged.tag c.loop-judged.taken.resolver so_far.taken (gives.1 c.args.doc.now so_far.us so_far.typed so_far.given).1
+    may_take so_far.typed c.pull_unit.new.tag c.loop-unit.taken.resolver so_far.taken (gives.1 c.args.doc.now so_far.us so_far.typed so_far.given).1
 
-pub loop-judged-preserved : goal.loop-judged-preserved
-loop-judged-preserved c =
-    let so_far = c.loop-judged.invariant in
-    let judged = c.in-Ok-Some.judged in
+pub loop-unit-preserved : goal.loop-unit-preserved
+loop-unit-preserved c =
+    let so_far = c.loop-unit.invariant in
+    let unit = unit_of c.in-Ok-Some.unit in
+    let tag = c.pull_unit.new.tag in
     let gives = rw c.in-Ok-Some.field-0-is at c.in-Ok-Some.ensures.gives in
     let more = gives.1 c.args.doc.now so_far.us so_far.typed so_far.given in
     subst (λ (r : TagReader). HasTakenUnits c.args.doc.now r c.take.new.self) (sym c.take_back.ensures) (record {
-      us = so_far.us ++ unit_of judged.unit ∷ [];
-      typed = typed_with so_far.typed judged;
+      us = so_far.us ++ unit ∷ [];
+      typed = typed_with so_far.typed tag;
       given = more.0;
-      taken = tag_taken so_far.typed judged.tag _ _ so_far.taken more.1 (when_ok c.take.result c.if-is_err.ensures.value c.take.ensures.taken);
-      written = units_more so_far.us (unit_of judged.unit) _ _ _ _ gives.0 so_far.written (when_ok c.take.result c.if-is_err.ensures.value c.take.ensures.written);
+      taken = tag_taken so_far.typed tag _ _ so_far.taken more.1 (when_ok c.take.result c.if-is_err.ensures.value c.take.ensures.taken);
+      written = units_more so_far.us unit _ _ _ _ gives.0 so_far.written (when_ok c.take.result c.if-is_err.ensures.value c.take.ensures.written);
     })
 
 pub returns-in-Ok-None-clause-ok : goal.returns-in-Ok-None-clause-ok
 returns-in-Ok-None-clause-ok c =
-    let so_far = c.loop-judged.invariant in
+    let so_far = c.loop-unit.invariant in
     let gives = rw c.in-Ok-None.field-0-is at c.in-Ok-None.ensures.gives in
     record {
       us = so_far.us;
@@ -52,7 +53,7 @@ returns-in-Ok-None-clause-ok c =
 
 pub returns-then-is_err-clause-err : goal.returns-then-is_err-clause-err
 returns-then-is_err-clause-err c =
-    let so_far = c.loop-judged.invariant in
+    let so_far = c.loop-unit.invariant in
     let gives = rw c.in-Ok-Some.field-0-is at c.in-Ok-Some.ensures.gives in
     let more = gives.1 c.args.doc.now so_far.us so_far.typed so_far.given in
     let cut = c.out_of_memory.result in
@@ -60,5 +61,5 @@ returns-then-is_err-clause-err c =
 
 pub returns-in-Err-pull_unit-clause-err : goal.returns-in-Err-pull_unit-clause-err
 returns-in-Err-pull_unit-clause-err c =
-    let so_far = c.loop-judged.invariant in
+    let so_far = c.loop-unit.invariant in
     rw c.kind_and_place-in-Err-pull_unit.ensures (of_source c.args.doc.now c.in-Err-pull_unit.fault (c.in-Err-pull_unit.ensures.gives c.args.doc.now so_far.us so_far.typed so_far.given))

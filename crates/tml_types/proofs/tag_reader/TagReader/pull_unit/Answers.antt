@@ -37,14 +37,26 @@ returns-in_default-clause-gives c =
           (read, given_placed source _ _ _ read),
     )
 
+pub returns-in-Ok-None-type_one-clause-gives : goal.returns-in-Ok-None-type_one-clause-gives
+returns-in-Ok-None-type_one-clause-gives c =
+    let gives = rw c.in-Ok-Some.field-0-is at c.in-Ok-Some.ensures in (
+      c.in-Ok-judge.ensures.ok,
+      λ source us typed given.
+          let begun = ap (option_map begun_tag) (sym c.in-Some.is) ∙ c.in-Ok-judge.ensures.begun in
+          let yields = rw c.in-Ok-None-type_one.field-0-is at c.in-Ok-None-type_one.ensures.ok in
+          let more = typed_more typed (begun_tag c.in-Some.begun) None (tag_of (unit_of c.in-Ok-Some.unit)) begun yields in
+          let read = reads_on c.args.self.now given c.pull.new.self c.in-Ok-Some.unit gives (AreTypedSo (typed ++ map typed_of (option_to_list None))) c.judge.new.nesting c.in-Ok-judge.ensures.ok more in
+          (read, given_placed source _ _ _ read),
+    )
+
 pub returns-in-Ok-type_one-clause-gives : goal.returns-in-Ok-type_one-clause-gives
 returns-in-Ok-type_one-clause-gives c =
     let gives = rw c.in-Ok-Some.field-0-is at c.in-Ok-Some.ensures in (
       c.in-Ok-judge.ensures.ok,
       λ source us typed given.
           let begun = ap (option_map begun_tag) (sym c.in-Some.is) ∙ c.in-Ok-judge.ensures.begun in
-          let more = typed_more typed (begun_tag c.in-Some.tag) c.in-Ok-type_one.tag (tag_of (unit_of c.in-Ok-Some.unit)) begun c.in-Ok-type_one.ensures.ok in
-          let read = reads_on c.args.self.now given c.pull.new.self c.in-Ok-Some.unit gives (AreTypedSo (typed ++ map typed_of (option_to_list c.in-Ok-type_one.tag))) c.judge.new.nesting c.in-Ok-judge.ensures.ok more in
+          let more = typed_more typed (begun_tag c.in-Some.begun) c.in-Ok-type_one.typed (tag_of (unit_of c.in-Ok-Some.unit)) begun c.in-Ok-type_one.ensures.ok in
+          let read = reads_on c.args.self.now given c.pull.new.self c.in-Ok-Some.unit gives (AreTypedSo (typed ++ map typed_of (option_to_list c.in-Ok-type_one.typed))) c.judge.new.nesting c.in-Ok-judge.ensures.ok more in
           (read, given_placed source _ _ _ read),
     )
 
@@ -53,6 +65,6 @@ returns-clause-gives c = λ source us typed given.
     let gives = rw c.in-Ok-Some.field-0-is at c.in-Ok-Some.ensures in
     let begun = ap (option_map begun_tag) (sym c.in-Some.is) ∙ c.in-Ok-judge.ensures.begun in
     let fault = c.in-Err-type_one.fault in
-    let comes = fault_comes typed (begun_tag c.in-Some.tag) fault (tag_of (unit_of c.in-Ok-Some.unit)) begun c.in-Err-type_one.ensures.err in
+    let comes = fault_comes typed (begun_tag c.in-Some.begun) fault (tag_of (unit_of c.in-Ok-Some.unit)) begun c.in-Err-type_one.ensures.err in
     c.fault_with.ensures source _
     (reads_on c.args.self.now given c.pull.new.self c.in-Ok-Some.unit gives (λ (tags : List PlainTag). HasTagFault tags fault) c.judge.new.nesting c.in-Ok-judge.ensures.ok comes)
