@@ -203,10 +203,10 @@ module _ (net : PlainNet) (is : IsNet net) (u : Timeline) (all_fit_u : Fits net 
         | inr fails ↦ inr (fails.0, fits_fewer net (Kept without) (Others (Kept keep) k) fails.0 (λ j lj other. others_set keep k j other) fails.1, λ holds. fails.2 ((law fails.0).0 holds))
       ]
 
-  traversed : (n : ℕ) → n ≤ length net.links → (keep : List Bool) × AreDecided net n keep
-  traversed zero low = (replicate (length net.links) true, none_decided net)
-  traversed (suc n) low =
-      let so_far = traversed n (omega (arith, low)) in
+  all_decided : (n : ℕ) → n ≤ length net.links → (keep : List Bool) × AreDecided net n keep
+  all_decided zero low = (replicate (length net.links) true, none_decided net)
+  all_decided (suc n) low =
+      let so_far = all_decided n (omega (arith, low)) in
       let more : n + 1 ≡ suc n = omega arith in
       subst (λ (m : ℕ). (keep : List Bool) × AreDecided net m keep) more (elim (link_decided so_far.0 n (omega (arith, low))) [
         | inl follows ↦ (slice_set so_far.0 n false, decided_left_out net n so_far.0 so_far.1 (omega (arith, low)) follows)
@@ -215,7 +215,7 @@ module _ (net : PlainNet) (is : IsNet net) (u : Timeline) (all_fit_u : Fits net 
 
   some_reduced : (links : List ℕ) × IsReduced net links
   some_reduced =
-      let done = traversed (length net.links) (omega arith) in
+      let done = all_decided (length net.links) (omega arith) in
       let marked = every_marked done.0 (length done.0) in
       (marked.0, reduced_when_done net done.0 marked.0 done.1 marked.1.rising (λ k. (λ among. ((marked.1.exact k).0 among).1, λ kept. (marked.1.exact k).1 (kept_within done.0 k kept, kept))))
 
