@@ -35,7 +35,9 @@ def answer(command):
 def main():
     here = os.path.dirname(os.path.abspath(__file__))
     program = sys.argv[1] if len(sys.argv) > 1 else os.path.join(here, "..", "crates", "tml", "out", "tml")
-    print(f"{'document':20} {'relation':12} {'answer':7} {'steps':>5} {'solve ms':>8} {'ask ms':>7} {'ratio':>5} {'check ms':>8} {'verify ms':>9} {'more KiB':>8}")
+    print(
+        f"{'document':20} {'relation':12} {'answer':7} {'steps':>5} {'solve ms':>8} {'ask ms':>7} {'ratio':>5} {'check ms':>8} {'verify ms':>9} {'more KiB':>8}"
+    )
     with tempfile.TemporaryDirectory() as folder:
         path, evidence = os.path.join(folder, "document"), os.path.join(folder, "evidence")
         for make in DOCUMENTS:
@@ -57,8 +59,11 @@ def main():
                 ask, verify = least(command), least([program, "verify", path, evidence])
                 after = peak_memory(command)
                 more = "" if before is None else f"{after - before:8}"
-                print(f"{make.__name__:20} {relation:12} {kind:7} {steps:5} {solve * 1e3:8.2f} {ask * 1e3:7.2f} {ask / solve:5.2f} "
-                      f"{check * 1e3:8.2f} {verify * 1e3:9.2f} {more}", flush=True)
+                print(
+                    f"{make.__name__:20} {relation:12} {kind:7} {steps:5} {solve * 1e3:8.2f} {ask * 1e3:7.2f} {ask / solve:5.2f} "
+                    f"{check * 1e3:8.2f} {verify * 1e3:9.2f} {more}",
+                    flush=True,
+                )
 
 
 if __name__ == "__main__":

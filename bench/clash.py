@@ -93,8 +93,15 @@ def pairs_that_clash():
 
 
 DOCUMENTS = [
-    ring_in_order, ring_of_before, ring_of_is_included, ring_of_simultaneous, ring_of_begins, clash_at_the_last, against_the_calendar,
-    dates_and_a_ring, pairs_that_clash,
+    ring_in_order,
+    ring_of_before,
+    ring_of_is_included,
+    ring_of_simultaneous,
+    ring_of_begins,
+    clash_at_the_last,
+    against_the_calendar,
+    dates_and_a_ring,
+    pairs_that_clash,
 ]
 
 
@@ -119,7 +126,10 @@ def main():
             verify = least([program, "verify", path, evidence])
             before, after = peak_memory([program, "check", path]), peak_memory([program, "solve", path])
             more = "" if before is None else f"{after - before:8}"
-            print(f"{make.__name__:22} {cites:5} {steps:5} {len(told.stdout):9} {check * 1e3:8.2f} {solve * 1e3:8.2f} {verify * 1e3:9.2f} {more}", flush=True)
+            print(
+                f"{make.__name__:22} {cites:5} {steps:5} {len(told.stdout):9} {check * 1e3:8.2f} {solve * 1e3:8.2f} {verify * 1e3:9.2f} {more}",
+                flush=True,
+            )
 
 
 if __name__ == "__main__":

@@ -131,7 +131,22 @@ def text_with_times(size):
 
 
 ROWS = [("spans", make) for make in (one_text, shortest_tags, one_tag, comments_and_references)]
-ROWS += [("check", make) for make in (one_text, deepest_nesting, deepest_of_long_names, shortest_tags, one_tag, comments_and_references, annotated_text, events, events_in_no_order, signals_and_links, times)]
+ROWS += [
+    ("check", make)
+    for make in (
+        one_text,
+        deepest_nesting,
+        deepest_of_long_names,
+        shortest_tags,
+        one_tag,
+        comments_and_references,
+        annotated_text,
+        events,
+        events_in_no_order,
+        signals_and_links,
+        times,
+    )
+]
 ROWS += [("dates", text_with_times)]
 
 

@@ -141,8 +141,19 @@ def layers_of_3() -> tuple[Links, Links]:
 
 
 DOCUMENTS: Sequence[Callable[[], tuple[Links, Links]]] = (
-    some_of_many, many_of_many, chain_in_order, chain_in_reverse, chain_shuffled, ring_of_simultaneous, ring_of_during, all_simultaneous,
-    layers_of_32, layers_of_3, dense, dense_shuffled, dense_overlaps,
+    some_of_many,
+    many_of_many,
+    chain_in_order,
+    chain_in_reverse,
+    chain_shuffled,
+    ring_of_simultaneous,
+    ring_of_during,
+    all_simultaneous,
+    layers_of_32,
+    layers_of_3,
+    dense,
+    dense_shuffled,
+    dense_overlaps,
 )
 
 

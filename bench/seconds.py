@@ -22,8 +22,17 @@ from pathlib import Path
 from by_hand import built
 from measure import least, shown
 from reduce import (
-    Links, all_simultaneous, chain, chain_in_order, chain_in_reverse, chain_shuffled, layers_of_32, many_of_many, milliseconds,
-    shuffled, some_of_many,
+    Links,
+    all_simultaneous,
+    chain,
+    chain_in_order,
+    chain_in_reverse,
+    chain_shuffled,
+    layers_of_32,
+    many_of_many,
+    milliseconds,
+    shuffled,
+    some_of_many,
 )
 from solve import document
 from verify import INTERVALS
@@ -92,10 +101,24 @@ def no_time_at_all() -> tuple[Links, list[str]]:
 
 Timed = tuple[Links, list[str]]
 LINKED: Sequence[Callable[[], Links | tuple[Links, Links]]] = (
-    some_of_many, many_of_many, chain_in_order, chain_in_reverse, chain_shuffled, all_simultaneous, layers_of_32, ring, wide_ring,
+    some_of_many,
+    many_of_many,
+    chain_in_order,
+    chain_in_reverse,
+    chain_shuffled,
+    all_simultaneous,
+    layers_of_32,
+    ring,
+    wide_ring,
 )
 TIMED: Sequence[Callable[[], Timed]] = (
-    all_dates, events_in_dates, chain_of_lengths, lengths_in_no_order, ring_of_lengths, too_short, no_time_at_all,
+    all_dates,
+    events_in_dates,
+    chain_of_lengths,
+    lengths_in_no_order,
+    ring_of_lengths,
+    too_short,
+    no_time_at_all,
 )
 
 
@@ -104,7 +127,7 @@ def written(links: Links, times: list[str], seed: int) -> bytes:
     count = max([len(times), *(1 + max(a, b) for a, _, b in links)])
     names = [f"i{number}_{one}" for one, number in enumerate(random.Random(seed).sample(range(10**8), count))]
     tags = [f'<TIMEX3 tid="{name}" {values}/>' for name, values in zip(names, times)]
-    tags += [f'<MAKEINSTANCE eiid="{name}" eventID="e"/>' for name in names[len(times):]]
+    tags += [f'<MAKEINSTANCE eiid="{name}" eventID="e"/>' for name in names[len(times) :]]
 
     def end(one: int, time: str, instance: str) -> str:
         return f'{time if one < len(times) else instance}="{names[one]}"'

@@ -90,8 +90,16 @@ def clash_at_the_last():
 
 
 DOCUMENTS = [
-    random_links, links_and_dates, chain_in_order, chain_in_reverse, chain_shuffled, dates_in_order, dates_in_reverse,
-    dates_shuffled, all_simultaneous, clash_at_the_last,
+    random_links,
+    links_and_dates,
+    chain_in_order,
+    chain_in_reverse,
+    chain_shuffled,
+    dates_in_order,
+    dates_in_reverse,
+    dates_shuffled,
+    all_simultaneous,
+    clash_at_the_last,
 ]
 
 

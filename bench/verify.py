@@ -25,8 +25,14 @@ def relation(a, b):
     """The first relation, in the order of TimeML's table, that holds of two intervals, or None where they overlap."""
     (s, e), (t, f) = a, b
     table = [
-        ("BEFORE", e < t), ("AFTER", f < s), ("INCLUDES", s < t and f < e), ("IS_INCLUDED", t < s and e < f),
-        ("DURING", t <= s and e <= f), ("DURING_INV", s <= t and f <= e), ("IBEFORE", e == t), ("IAFTER", f == s),
+        ("BEFORE", e < t),
+        ("AFTER", f < s),
+        ("INCLUDES", s < t and f < e),
+        ("IS_INCLUDED", t < s and e < f),
+        ("DURING", t <= s and e <= f),
+        ("DURING_INV", s <= t and f <= e),
+        ("IBEFORE", e == t),
+        ("IAFTER", f == s),
     ]
     return next((name for name, holds in table if holds), None)
 

@@ -25,8 +25,8 @@ from stories import Story
 from tml_corpus.asking.program import File, Program, Reply
 from tml_corpus.check.fix import mended
 from tml_corpus.check.judgement import Judgement
-from tml_corpus.check.placed import PlacedFault, PlacedWarning
 from tml_corpus.check.judging import judge_document
+from tml_corpus.check.placed import PlacedFault, PlacedWarning
 from tml_corpus.lint.kinds import chosen
 
 LINT = chosen((), ())

@@ -11,7 +11,6 @@ import unittest
 from corpus import TML, CorpusTest, needed, text_at
 from processes import interpreter, until, with_own_bytecode
 
-
 PYTHON = interpreter("import sys, distributed; sys.exit(sys.version_info < (3, 11))")
 
 

@@ -83,7 +83,7 @@ class Item:
             value = f"1998-{number:02}" if self.chance(2) else f"1998-Q{(number + 2) // 3}"
             self.text.append(
                 f'In <TIMEX3 tid="t8" type="DATE" value="{value}">that time</TIMEX3> of <TIMEX3 tid="t9" type="DATE" value="1998">the '
-                'year</TIMEX3>'
+                "year</TIMEX3>"
             )
             self.link("t8", "t9", "IS_INCLUDED")
 

@@ -9,7 +9,6 @@ from typing import Any
 
 from corpus import COMPANION, TML, TOP, CorpusTest
 from forked import Forked
-
 from tml.tags.edits import Edit, applied
 from tml_corpus.lint.kinds import chosen
 from tml_corpus.serve.document import Asked, OpenDocument

@@ -93,7 +93,10 @@ class Pairs(AgreeTest):
         clash = three((1, "BEFORE", 2), (2, "BEFORE", 1))
         faults = "<TimeML>\n", "<TimeML>\n<P>"
         for name, of_first, of_second in (
-            ("c1", clash, three()), ("c2", three(), clash), ("f1", faults[0], clash), ("f2", clash, faults[1])
+            ("c1", clash, three()),
+            ("c2", three(), clash),
+            ("f1", faults[0], clash),
+            ("f2", clash, faults[1]),
         ):
             self.write(f"a/{name}.xml", of_first)
             self.write(f"b/{name}.xml", of_second)

@@ -80,7 +80,9 @@ DOCUMENTS: dict[str, tuple[str, int, Callable[[int], bytes]]] = {
     "very many attributes": (TAGS, 0, lambda size: filled(size, b"<TimeML><P", b' a=""', b"/></TimeML>\n")),
     "very many bad tags": (TAGS, 0, lambda size: filled(size, b"<TimeML>", b"x", b"< " * 300 + b"</TimeML>\n")),
     "very many tags to take out": (
-        "tml-edit --tml TML --unwrap p d.xml", 0, lambda size: filled(size, b"<TimeML>", b"<p/>", b"</TimeML>\n")
+        "tml-edit --tml TML --unwrap p d.xml",
+        0,
+        lambda size: filled(size, b"<TimeML>", b"<p/>", b"</TimeML>\n"),
     ),
     "very many links to drop": (
         "tml-edit --tml TML --drop-links VAGUE d.xml",
@@ -88,16 +90,22 @@ DOCUMENTS: dict[str, tuple[str, int, Callable[[int], bytes]]] = {
         lambda size: filled(size, b"<TimeML>", b'<TLINK relType="VAGUE"></TLINK>', b"</TimeML>\n"),
     ),
     "one long line with a fault": (
-        "tml-corpus check --format json --tml TML d.xml", 1, lambda size: filled(size, b"<TimeML>", "é".encode(), b"<EVENT/></TimeML>\n")
+        "tml-corpus check --format json --tml TML d.xml",
+        1,
+        lambda size: filled(size, b"<TimeML>", "é".encode(), b"<EVENT/></TimeML>\n"),
     ),
     "very many suspect events": (LINT, 0, lambda size: numbered(size, b"<TimeML>", b'<EVENT eid="e%d" class="STATE"/>', b"</TimeML>\n")),
     "very many attributes of a tag that lacks one": (
-        CHECK, 1, lambda size: numbered(size, b'<TimeML><EVENT eid="e"', b' a%d=""', b">x</EVENT></TimeML>\n")
+        CHECK,
+        1,
+        lambda size: numbered(size, b'<TimeML><EVENT eid="e"', b' a%d=""', b">x</EVENT></TimeML>\n"),
     ),
     "a tag with a very long name": (CHECK, 1, lambda size: filled(size, b"<TimeML><", b"a", b"/></TimeML>\n")),
     "very many names in other letters": (FIX, 1, lambda size: filled(size, b"<TimeML>", b"<Event/>", b"</TimeML>\n")),
     "very many attributes of one name": (
-        "tml-corpus check --more 100 --tml TML d.xml", 1, lambda size: filled(size, b"<TimeML><EVENT", b' a=""', b"/></TimeML>\n")
+        "tml-corpus check --more 100 --tml TML d.xml",
+        1,
+        lambda size: filled(size, b"<TimeML><EVENT", b' a=""', b"/></TimeML>\n"),
     ),
     "very many unknown attributes": (
         "tml-corpus check --lint --warn unknown-attribute --tml TML d.xml",
@@ -105,11 +113,15 @@ DOCUMENTS: dict[str, tuple[str, int, Callable[[int], bytes]]] = {
         lambda size: numbered(size, b"<TimeML", b" a%d=''", b"></TimeML>\n"),
     ),
     "dates that touch among very many units": (
-        "tml-edit --touching-dates --tml TML d.xml", 0, lambda size: filled(size, TOUCHING, b"<p/>\n", b"</TimeML> \n")
+        "tml-edit --touching-dates --tml TML d.xml",
+        0,
+        lambda size: filled(size, TOUCHING, b"<p/>\n", b"</TimeML> \n"),
     ),
     "a tag with a very long name that is counted": (TAGS, 1, lambda size: filled(size, b"<TimeML><", b"a", b"/></TimeML>\n")),
     "very many tags with another name": (
-        "tml-edit --tml TML --rename p=s d.xml", 0, lambda size: filled(size, b"<TimeML>", b"<p/>\n", b"</TimeML>\n")
+        "tml-edit --tml TML --rename p=s d.xml",
+        0,
+        lambda size: filled(size, b"<TimeML>", b"<p/>\n", b"</TimeML>\n"),
     ),
     "very many lines": ("tml-corpus check --tml TML d.xml", 1, lambda size: filled(size, b"<TimeML>", b"\n", b"<EVENT/></TimeML>\n")),
 }

@@ -67,7 +67,8 @@ class Digests(AttackTest):
         for path in COLLIDING:
             self.write(path, document(CLASH))
         for command, folder in (
-            ("tml-corpus report --tml TML c -o pages", "pages/documents"), ("tml-corpus clashes --tml TML --evidence kept c", "kept")
+            ("tml-corpus report --tml TML c -o pages", "pages/documents"),
+            ("tml-corpus clashes --tml TML --evidence kept c", "kept"),
         ):
             with self.subTest(command):
                 self.assertEqual(self.called(command).status, 1)

@@ -15,7 +15,13 @@ from processes import is_running, until
 from tml.process import Process
 
 PROGRAMS = (
-    "exit 0", "exit 1", "yes", "cat", "echo accepted", "echo fault 10 MissingAttribute 99999; exit 1", "echo fault 10 BadValue 0; exit 1"
+    "exit 0",
+    "exit 1",
+    "yes",
+    "cat",
+    "echo accepted",
+    "echo fault 10 MissingAttribute 99999; exit 1",
+    "echo fault 10 BadValue 0; exit 1",
 )
 """Programs that are not `tml`."""
 

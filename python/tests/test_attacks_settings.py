@@ -8,12 +8,13 @@ import contextlib
 import io
 import multiprocessing
 import os
-import tomllib  # noqa: F401
 import unittest
 from collections.abc import Callable
 from functools import partial
 from typing import TypeVar
 from unittest import mock
+
+import tomllib  # noqa: F401
 
 from attacks import AttackTest
 from corpus import TML, document

@@ -121,7 +121,7 @@ class Statuses(CorpusTest):
         for number in range(12):
             self.write(f"{number:02}.xml", "<TimeML/>\n" if number != 5 else "<TimeML/>\n<!--end-->\n")
         # A program that ends the process that asks it, where the document has a word in it.
-        fake = self.fake(f"text=$(cat)\ncase $text in *end*) kill -9 $PPID; sleep 1;; esac\nprintf '%s\\n' \"$text\" | {TML} \"$@\"")
+        fake = self.fake(f'text=$(cat)\ncase $text in *end*) kill -9 $PPID; sleep 1;; esac\nprintf \'%s\\n\' "$text" | {TML} "$@"')
         status, lines, _ = self.run_it("check", "--jobs", "3", ".", tml=fake)
         self.assertEqual(status, 2)
         self.assertTrue(lines[0].startswith("./05.xml: not judged: the process that examined it"), lines)

@@ -396,9 +396,7 @@ class WrongCitations(unittest.TestCase):
     def test_names_that_are_not_clear(self) -> None:
         text = "`tml_tree/specs/Whole`: `kind_and_place`\n`kind_and_place` `Claim` `ShowsTruth`\n"
         text += "`Claim` of `evidence_check`, `Claim::Fitz`\n"
-        self.assertEqual(
-            list(Citations(text).unclear()), [(2, "`ShowsTruth` is cited in 0 places"), (3, "no `Claim::Fitz` in any crate")]
-        )
+        self.assertEqual(list(Citations(text).unclear()), [(2, "`ShowsTruth` is cited in 0 places"), (3, "no `Claim::Fitz` in any crate")])
         again = f"{text}`tml_types/specs/Whole`: `kind_and_place`\n"
         self.assertIn((2, "`kind_and_place` is cited in 2 places"), Citations(again).unclear())
 

@@ -77,7 +77,9 @@ class OnACluster(ClusterTest):
     def test_same_bytes(self) -> None:
         self.files(100)
         rows: list[tuple[str, list[str], str]] = [
-            ("text", ["--more", "1"], TML), ("jsonl", ["--explain"], TML), ("junit", [], "tml-of-workers")
+            ("text", ["--more", "1"], TML),
+            ("jsonl", ["--explain"], TML),
+            ("junit", [], "tml-of-workers"),
         ]
         for form, words, program in rows:
             with self.subTest(form):
@@ -126,7 +128,7 @@ class OnACluster(ClusterTest):
             self.write(f"{number:02}.xml", "<TimeML/>\n" + "<!--end-->\n" * (number == 20))
         program = self.script(
             "text=$(cat)\ncase $text in *end*) kill -9 $PPID; sleep 1;; esac\n"
-            f"printf '%s\\n' \"$text\" | {os.path.abspath(TML)} \"$@\"\nexit"
+            f'printf \'%s\\n\' "$text" | {os.path.abspath(TML)} "$@"\nexit'
         )
         status, out, _ = self.bytes_of("check", "--cluster", self.address, ".", tml=program)
         lines = out.decode().splitlines()

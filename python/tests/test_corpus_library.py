@@ -15,7 +15,7 @@ import zipfile
 from collections.abc import Mapping
 from pathlib import Path
 
-from corpus import CLASH, EVENT, INSTANCE, SOURCES, TESTS, TML, TOOLS, TOO_LONG, TOP, CorpusTest, document, match_in
+from corpus import CLASH, EVENT, INSTANCE, SOURCES, TESTS, TML, TOO_LONG, TOOLS, TOP, CorpusTest, document, match_in
 from daemons import PYTHON, ClusterTest
 from forked import run_forked
 from installing import INSTALLED

@@ -12,7 +12,12 @@ OF_EACH = 4
 """How many slips of each kind are made; `python3 python/tests/advice.py 5000` makes more."""
 
 NOT_SEEN = {
-    "attribute lost", "attribute emptied", "link lost", "month and day exchanged", "invisible letter between links", "another month"
+    "attribute lost",
+    "attribute emptied",
+    "link lost",
+    "month and day exchanged",
+    "invisible letter between links",
+    "another month",
 }
 """Slips after which a document may be one that somebody may have meant, as one without the tense of an instance."""
 

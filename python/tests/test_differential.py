@@ -260,8 +260,8 @@ class Referees(unittest.TestCase):
 class Agreeing(unittest.TestCase):
     """Answers to `possible`, `matrix`, `ask` and `relations` that agree, and others that do not."""
 
-    DOCUMENT = b'''<TimeML><TIMEX3 tid="a" type="SET"/><TIMEX3 tid="b" type="SET"/><TIMEX3 tid="c" type="SET"/>
-<TLINK timeID="a" relatedToTime="b" relType="DURING"/><TLINK timeID="b" relatedToTime="c" relType="BEFORE"/></TimeML>'''
+    DOCUMENT = b"""<TimeML><TIMEX3 tid="a" type="SET"/><TIMEX3 tid="b" type="SET"/><TIMEX3 tid="c" type="SET"/>
+<TLINK timeID="a" relatedToTime="b" relType="DURING"/><TLINK timeID="b" relatedToTime="c" relType="BEFORE"/></TimeML>"""
 
     def answers(self, first: bytes, second: bytes) -> tuple[Case, Outcome, list[tuple[Case, Outcome]]]:
         """The answers of the reference to a question and to the further ones; of a proof its beginning alone."""
@@ -537,7 +537,7 @@ class Runs(unittest.TestCase):
     def test_lies_about_placings_are_found(self) -> None:
         # By these seeds the first hundred cases have one in which it shows.
         for command, lie, subject, seed in (
-            ("seconds", 's/^at \\(.*\\) .*/at \\1 9/', "placing", "1"),
+            ("seconds", "s/^at \\(.*\\) .*/at \\1 9/", "placing", "1"),
             ("seconds", "s/^least /most /", "placing", "2"),
             ("confirm", "s/^seconds Length/seconds Bound/", "confirming", "1"),
         ):

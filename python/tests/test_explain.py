@@ -61,13 +61,13 @@ class Explanations(CorpusTest):
                 (
                     '<TLINK timeID="t" relatedToTime="t" relType="MODAL"/>',
                     '2:37 relType="MODAL" is not a relation of TLINK but a relation of SLINK: BEFORE, AFTER, INCLUDES, IS_INCLUDED, '
-                    'DURING, DURING_INV, SIMULTANEOUS, IDENTITY, IBEFORE, IAFTER, BEGINS, BEGUN_BY, ENDS, ENDED_BY, OVERLAPS, '
-                    'OVERLAPPED_BY',
+                    "DURING, DURING_INV, SIMULTANEOUS, IDENTITY, IBEFORE, IAFTER, BEGINS, BEGUN_BY, ENDS, ENDED_BY, OVERLAPS, "
+                    "OVERLAPPED_BY",
                 ),
                 (
                     '<TLINK timeID="t" relatedToTime="t" relType="OVERLAP"/>',
                     '2:37 relType="OVERLAP" is not a relation of TLINK, and none of the sixteen relations says only that some time is '
-                    'shared: write OVERLAPS if '
+                    "shared: write OVERLAPS if "
                     "the first begins first and ends inside the second, OVERLAPPED_BY the other way round, or whichever relation is "
                     "meant; `tml-edit "
                     "--overlaps` expresses it by additional intervals, or delete the link; `tml possible` shows what is then left open",
@@ -94,7 +94,7 @@ class Explanations(CorpusTest):
                 (
                     '<TIMEX3 tid="t" type="SET"/><TLINK timeID="t" eventInstanceID="i" relatedToTime="t" relType="ENDS"/>',
                     '2:47 eventInstanceID="i" and timeID="t" both name the first end of the link: delete eventInstanceID, since no tag has '
-                    'this identifier',
+                    "this identifier",
                 ),
             ]
         )
@@ -131,7 +131,7 @@ class Explanations(CorpusTest):
                 (
                     EVENT + '<SIGNAL sid="e1"/>',
                     '2:48 sid="e1" is the eid of the EVENT at 2:1 too: delete it if it was pasted, and if not write another one here, such '
-                    'as s2',
+                    "as s2",
                 ),
                 (
                     "<MAKEINSTANCE eiid='i1' eventID = 'e1' tense='PAST'/>",
@@ -140,7 +140,7 @@ class Explanations(CorpusTest):
                 (
                     EVENT + INSTANCE + '<TLINK eventInstanceID="e1" relatedToTime="t" relType="ENDS"/>',
                     '2:85 no MAKEINSTANCE has eiid="e1"; e1 is an EVENT, its instance is i1; and no TIMEX3 has tid="t", and the document '
-                    'has no TIMEX3: add one',
+                    "has no TIMEX3: add one",
                 ),
                 (
                     EVENT + second + INSTANCE + '<TLINK eventInstanceID="i1" relatedToEventInstance="e2" relType="ENDS"/>',
@@ -277,12 +277,20 @@ class Explanations(CorpusTest):
                 "UTF-8",
             ),
             ("<TimeML>é".encode() + b"\xe9</TimeML>", "1:10 the byte E9 is not UTF-8, and other characters of the file are: type é again"),
-            ("<TimeML>x</TimeML>".encode("utf-16"), "1:1 the byte FF is not UTF-8: the file looks like UTF-16; `tml-corpus fix` turns it "
-                "into UTF-8"),
-            ("<TimeML>x</TimeML>".encode("utf-16-le"), "1:1 the file looks like UTF-16: `iconv -f utf-16 -t utf-8` turns it into UTF-8; "
-                "change the name of the encoding in its first line too"),
-            (b"<TimeML>caf\xc3", "1:12 the file ends within a character, so its end was lost: restore it from a copy, or if nothing else "
-                "is missing write </TimeML> at the end"),
+            (
+                "<TimeML>x</TimeML>".encode("utf-16"),
+                "1:1 the byte FF is not UTF-8: the file looks like UTF-16; `tml-corpus fix` turns it " "into UTF-8",
+            ),
+            (
+                "<TimeML>x</TimeML>".encode("utf-16-le"),
+                "1:1 the file looks like UTF-16: `iconv -f utf-16 -t utf-8` turns it into UTF-8; "
+                "change the name of the encoding in its first line too",
+            ),
+            (
+                b"<TimeML>caf\xc3",
+                "1:12 the file ends within a character, so its end was lost: restore it from a copy, or if nothing else "
+                "is missing write </TimeML> at the end",
+            ),
         ]
         self.check_whole(rows)
 
@@ -290,8 +298,10 @@ class Explanations(CorpusTest):
         self.write("d.xml", document("<SIGNAL/>"))
         self.assertEqual(
             self.run_it("check", "--no-explain", "d.xml")[1][:2],
-            ["d.xml:2:1: error: 10 MissingAttribute: A tag lacks a required attribute, or has it with an empty value. [byte 9]",
-                "1 file: 0 accepted, 1 with a fault, 0 not judged"],
+            [
+                "d.xml:2:1: error: 10 MissingAttribute: A tag lacks a required attribute, or has it with an empty value. [byte 9]",
+                "1 file: 0 accepted, 1 with a fault, 0 not judged",
+            ],
         )
 
     def test_what_it_is_about_is_marked(self) -> None:

@@ -213,7 +213,7 @@ class Samples(FigureTest):
 
 
 class Forms(FigureTest):
-    HOSTILE = r"\input{/etc/passwd} $x$ #1 %&_^~{}" + "\"<>|`"
+    HOSTILE = r"\input{/etc/passwd} $x$ #1 %&_^~{}" + '"<>|`'
 
     def test_tex(self) -> None:
         text = self.HOSTILE.replace("&", "&amp;").replace("<", "&lt;")

@@ -5,9 +5,10 @@ import re
 import subprocess
 import sys
 import tempfile
-import tomllib
 import unittest
 from pathlib import Path
+
+import tomllib
 
 import tml
 import tml_corpus

@@ -11,7 +11,8 @@ import unittest
 from itertools import combinations
 
 from corpus import TML, CorpusTest, needs_matrix
-from tml.statuses import INTERVAL_LIMIT as INTERVALS, LINK_LIMIT as LINKS
+from tml.statuses import INTERVAL_LIMIT as INTERVALS
+from tml.statuses import LINK_LIMIT as LINKS
 
 TIMES = "".join(f'<TIMEX3 tid="t{number}" type="SET"/>' for number in range(INTERVALS))
 SECONDS = 60

@@ -73,7 +73,7 @@ class Warnings(CorpusTest):
         )
 
     def test_values(self) -> None:
-        no_form = 'is not a TIMEX3 value, so the calendar cannot place it'
+        no_form = "is not a TIMEX3 value, so the calendar cannot place it"
         looks = "looks like a date, and the calendar does not place it"
         rows = [
             ("1999-3-11", "value-form", f"{no_form}; did you mean 1999-03-11?"),
@@ -172,8 +172,10 @@ class Warnings(CorpusTest):
                 (time('type="DATE" value="1998"', "") + '<TIMEX3 tid="t2" type="DURATION" value="P1D" beginPoint="t1">x</TIMEX3>', []),
                 (time('type="DURATION"', ""), []),
                 ('<EVENT eid="e2" class="STATE" target="#x"/><MAKEINSTANCE eiid="i2" eventID="e2"/>' + link("ENDS", "i2"), []),
-                (time('type="DATE" value="1998" beginPoint="t0"'), ["3:43 date-with-points: beginPoint of a DATE says nothing about its "
-                    "time: only its value and links do"]),
+                (
+                    time('type="DATE" value="1998" beginPoint="t0"'),
+                    ["3:43 date-with-points: beginPoint of a DATE says nothing about its " "time: only its value and links do"],
+                ),
                 (time('type="DURATION" value="P1D" beginPoint="t0"'), []),
             ]
         )
@@ -229,7 +231,7 @@ class Warnings(CorpusTest):
 
     def test_years(self) -> None:
         that_day = '<TIMEX3 tid="{}" type="DATE" value="{}-03-09">that day</TIMEX3>'
-        far = 'is far from the creation time in 1998 and from all other dates, and the text does not name'
+        far = "is far from the creation time in 1998 and from all other dates, and the text does not name"
         self.check(
             [
                 (time('type="DATE" value="1898-03-09"', "that day"), [f'3:30 far-date: value="1898-03-09" {far} 1898']),
@@ -244,8 +246,17 @@ class Warnings(CorpusTest):
 
     def test_creation_times(self) -> None:
         twice = time('type="DATE" value="1998" functionInDocument="CREATION_TIME"')
-        self.check([(twice, ["3:43 two-creation-times: the TIMEX3 at 2:1 is the creation time already: see which of the two is, and "
-            "remove this attribute from the other"])])
+        self.check(
+            [
+                (
+                    twice,
+                    [
+                        "3:43 two-creation-times: the TIMEX3 at 2:1 is the creation time already: see which of the two is, and "
+                        "remove this attribute from the other"
+                    ],
+                )
+            ]
+        )
 
     def test_tags_inside_of_each_other(self) -> None:
         second = '<EVENT eid="e2" class="STATE">y</EVENT>'
@@ -313,7 +324,7 @@ class Warnings(CorpusTest):
         self.assertEqual(
             lines[0],
             'd.xml:1:1: warning: the document has no creation time: add functionInDocument="CREATION_TIME" to the TIMEX3 that says when it '
-            'was made [no-creation-time]',
+            "was made [no-creation-time]",
         )
         self.assertEqual(lines[1:3], ["    <TimeML>", "    ^~~~~~~~"])
         self.assertEqual(
@@ -368,7 +379,7 @@ class Settings(CorpusTest):
             ("jobs = true", ": jobs has to be a number from 1 on"),
             ("jobs = " + "9" * 5000, " cannot be read: a number has too many digits"),
             ("a.b = 1", ":1:2: there is a dot outside of a text, and no setting has one"),
-            ("# a.b\npatterns = ['*.a', \"\"\"\nb.c\"\"\"\"]\n[d.e]", ":4:3: there is a dot outside of a text"),
+            ('# a.b\npatterns = [\'*.a\', """\nb.c""""]\n[d.e]', ":4:3: there is a dot outside of a text"),
             (" " * 16385, " cannot be read: it has more than 16,384 bytes"),
             (b"\xff", " cannot be read: "),
         ]

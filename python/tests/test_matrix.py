@@ -91,7 +91,19 @@ class Strangers(MatrixTest):
         from tml_corpus.matrix.formats import harmless
 
         for words in (
-            "=1", "+1", "-1", "@x", "\uff1d1", "\uff0b1", "\uff0d1", "\uff20x", "\ufe661", "\ufe631", "\u22121", " \t\uff1d1", "\u200b=1"
+            "=1",
+            "+1",
+            "-1",
+            "@x",
+            "\uff1d1",
+            "\uff0b1",
+            "\uff0d1",
+            "\uff20x",
+            "\ufe661",
+            "\ufe631",
+            "\u22121",
+            " \t\uff1d1",
+            "\u200b=1",
         ):
             with self.subTest(words):
                 self.assertTrue(harmless(words).startswith("'"), words)
@@ -106,7 +118,7 @@ class Strangers(MatrixTest):
                 self.assertEqual((status, next(csv.reader(lines[1:2]))[: len(columns)]), (0, columns))
 
     def test_names_of_files(self) -> None:
-        name = "a<&\">\n.xml"
+        name = 'a<&">\n.xml'
         self.write(name, document(event(1)))
         status, lines, _ = self.run_it("matrix", name, "--format", "html")
         self.assertEqual(status, 0)

@@ -21,8 +21,15 @@ def told(path, count):
     print(f"{count} skipped", "--write-baseline needs --baseline FILE", 'value="{value}"', "skipped")
     return "body{margin:0;color:red}" + "<p title=\\"a row of it\\">one of <em>two</em> words</p>"
 '''
-FOUND = ["write it again", "{}: there is no {}: {}", "such file", "{} skipped", "--write-baseline needs --baseline FILE", "a row of it",
-    "one of"]
+FOUND = [
+    "write it again",
+    "{}: there is no {}: {}",
+    "such file",
+    "{} skipped",
+    "--write-baseline needs --baseline FILE",
+    "a row of it",
+    "one of",
+]
 
 PAGE = '''SCRIPT = """
 "use strict";

@@ -92,7 +92,9 @@ class Misuse(unittest.TestCase):
     def test_by_is_no_path(self) -> None:
         by: Any
         for by, said in (
-            (TML, f"write by=tml.Process({TML!r})"), (Path("/l/libtml.so"), "write by=tml.Library('/l/libtml.so')"), (3, "and not int")
+            (TML, f"write by=tml.Process({TML!r})"),
+            (Path("/l/libtml.so"), "write by=tml.Library('/l/libtml.so')"),
+            (3, "and not int"),
         ):
             self.assertIn(said, self.said(TypeError, lambda by=by: tml.check(RATES, by=by)))  # type: ignore[misc]
 
@@ -123,7 +125,7 @@ class Misuse(unittest.TestCase):
             (b"BEFORE", b"before"),
             (b"<TLINK", b"<TLNK"),
             (b'value="1998-01', b'value="1998-13'),
-            (b'lid="l1"', b'lid=l1'),
+            (b'lid="l1"', b"lid=l1"),
             (b'eid="e1" ', b""),
             (b"fell", b"fell & rose"),
         ]

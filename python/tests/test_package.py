@@ -116,7 +116,11 @@ class Package(unittest.TestCase):
         printed = subprocess.run(["dpkg-deb", "-f", self.made], check=True, capture_output=True, text=True).stdout
         fields = dict(re.findall(r"^(\S+): (.*)$", printed, re.MULTILINE))
         wanted = {
-            "Package": "tml-timeml", "Version": version, "Architecture": "amd64", "Conflicts": "tml", "Maintainer": "A Name <a@example.org>"
+            "Package": "tml-timeml",
+            "Version": version,
+            "Architecture": "amd64",
+            "Conflicts": "tml",
+            "Maintainer": "A Name <a@example.org>",
         }
         self.assertEqual({name: fields.get(name) for name in wanted}, wanted)
         self.assertRegex(fields["Depends"], r"^libc6 \(>= 2\.\d+\), python3 \(>= 3\.11\)$")

@@ -67,7 +67,21 @@ class Constraints(unittest.TestCase):
 
     def test_lengths(self) -> None:
         values = (
-            "P1D", "PT1H30M", "P2W", "P1W2DT3H4M5S", "P0D", "P1Y", "P1M", "PXD", "P", "PT", "P1DT", "PT1D", "1998", "", "P1234567890D"
+            "P1D",
+            "PT1H30M",
+            "P2W",
+            "P1W2DT3H4M5S",
+            "P0D",
+            "P1Y",
+            "P1M",
+            "PXD",
+            "P",
+            "PT",
+            "P1DT",
+            "PT1D",
+            "1998",
+            "",
+            "P1234567890D",
         )
         for kind in ("DURATION", "SET", "DATE"):
             for modifier in ("", "LESS_THAN", "EQUAL_OR_LESS", "MORE_THAN", "EQUAL_OR_MORE", "APPROX"):

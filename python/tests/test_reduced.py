@@ -99,7 +99,7 @@ class ReducedLinks(unittest.TestCase):
                 holding[0 < wanted < len(some)] += 1
         self.assertGreater(holding[True], 50)
 
-    HEAD = document(EVENT + "".join(f'<MAKEINSTANCE eiid="{name}" eventID="e1"/>' for name in "abc") ).replace("</TimeML>", "%s</TimeML>")
+    HEAD = document(EVENT + "".join(f'<MAKEINSTANCE eiid="{name}" eventID="e1"/>' for name in "abc")).replace("</TimeML>", "%s</TimeML>")
 
     def with_links(self, *links: str) -> bytes:
         """A document with three instances and some links, each of which is three words."""

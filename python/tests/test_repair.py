@@ -77,7 +77,11 @@ class Repairs(CorpusTest):
     def test_the_link_that_is_in_every_clash(self) -> None:
         # Two rings that share the link from a to b.
         links = [
-            link("b", "BEFORE", "c"), link("c", "BEFORE", "a"), link("a", "BEFORE", "b"), link("b", "BEFORE", "d"), link("d", "BEFORE", "a")
+            link("b", "BEFORE", "c"),
+            link("c", "BEFORE", "a"),
+            link("a", "BEFORE", "b"),
+            link("b", "BEFORE", "d"),
+            link("d", "BEFORE", "a"),
         ]
         repair, lines = self.repair(written(links))
         self.assertEqual([[one["number"] for one in choices] for choices in repair["choices"]], [[2]])
@@ -142,8 +146,11 @@ class Repairs(CorpusTest):
 
         self.write("d.xml", written(RING + PAIR))
         rows = [
-            (1, "no set of links without which a timeline fits was found within the limit of questions about one document; fewer than 1 "
-                "will not do"),
+            (
+                1,
+                "no set of links without which a timeline fits was found within the limit of questions about one document; fewer than 1 "
+                "will not do",
+            ),
             (6, "leave out or mend these 2 links, and a timeline fits; fewer will not do"),
         ]
         for questions, said in rows:

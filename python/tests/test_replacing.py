@@ -11,11 +11,10 @@ from functools import partial
 from unittest import mock
 
 from corpus import TML, CorpusTest, document
-
 from tml.running import CannotRun
-from tml_corpus.files.finding import Found
-from tml_corpus.check.fix import Fixed, write
 from tml_corpus.asking.pool import Interruption, in_order
+from tml_corpus.check.fix import Fixed, write
+from tml_corpus.files.finding import Found
 from tml_corpus.timeline.timeline import write_picture
 
 STRANGER = 65534

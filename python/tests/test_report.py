@@ -87,7 +87,10 @@ class Pages(ReportTest):
     def test_the_index(self) -> None:
         mended = self.sample("port.xml").replace("DURING", "AFTER")
         documents = {
-            "clash.xml": self.sample("port.xml"), "fault.xml": "<TimeML><EVENT/></TimeML>", "fits.xml": mended, "touching.xml": TOUCHING
+            "clash.xml": self.sample("port.xml"),
+            "fault.xml": "<TimeML><EVENT/></TimeML>",
+            "fits.xml": mended,
+            "touching.xml": TOUCHING,
         }
         lines = self.made(documents, status=1)
         first = "4 files: 1 accepted, 1 with a clash, 1 whose only clashes are dates that touch, 1 with a fault, 0 not judged"

@@ -58,10 +58,12 @@ class ScriptTest(CorpusTest):
         status, out, _ = self.run_script("tml-edit", "--unwrap", "HL", "--write", "c", "--glob", "*.xml", "--glob", "*.tml")
         self.assertEqual((status, out), (1, "c/a.xml: changed\nc/d/e.tml: changed\n4 files: 2 changed, 1 that cannot be\n"))
         self.assertEqual(read(), {**contents, "c/a.xml": new, "c/d/e.tml": new})
-        self.assertEqual(self.run_script("tml-edit", "--unwrap", "HL", "--write", "c/a.xml")[:2], (0,
-            "1 file: 0 changed, 0 that cannot be\n"))
-        self.assertEqual(self.run_script("tml-edit", "--write", "-"), (2, "", "tml-edit: - has to be the only path, and goes without "
-            "--write\n"))
+        self.assertEqual(
+            self.run_script("tml-edit", "--unwrap", "HL", "--write", "c/a.xml")[:2], (0, "1 file: 0 changed, 0 that cannot be\n")
+        )
+        self.assertEqual(
+            self.run_script("tml-edit", "--write", "-"), (2, "", "tml-edit: - has to be the only path, and goes without " "--write\n")
+        )
 
     def test_help_has_an_example(self) -> None:
         for name in ("redundant-links", "tml-edit", "from-tempeval2", "html-entities"):
@@ -260,7 +262,7 @@ class Tables(ScriptTest):
                 '&lt;He <EVENT eid="e1" class="OCCURRENCE">left</EVENT> next <EVENT eid="e2" class="STATE">week</EVENT>',
                 "A&amp;B",
                 "</TEXT>",
-                "<MAKEINSTANCE eiid=\"i.e1\" eventID=\"e1\" modality='\"c\"'/>",
+                '<MAKEINSTANCE eiid="i.e1" eventID="e1" modality=\'"c"\'/>',
                 '<MAKEINSTANCE eiid="i.e2" eventID="e2"/>',
                 '<TLINK eventInstanceID="i.e1" relatedToTime="t0" relType="BEFORE"/>',
                 '<TLINK timeID="t0" relatedToEventInstance="i.e2" relType="VAGUE"/>',
@@ -287,8 +289,10 @@ class Tables(ScriptTest):
             ({"base_segmentation": "a x 0 0\n"}, "base-segmentation.tab:1:3: 'x' is not a number of at most 9 digits"),
             ({"base_segmentation": "../a 0 0 x\n"}, "is not a name for a file"),
             ({"base_segmentation": base, "event_extents": "a 0 7 event e1 1\n"}, "e1 is at a token that is not there"),
-            ({"base_segmentation": base, "event_extents": "a 0 0 event e1 1\na 0 2 event e1 1\n"},
-                "the tokens of e1 do not follow each other"),
+            (
+                {"base_segmentation": base, "event_extents": "a 0 0 event e1 1\na 0 2 event e1 1\n"},
+                "the tokens of e1 do not follow each other",
+            ),
             (
                 {"base_segmentation": base, "event_extents": "a 0 0 event e1 1\na 0 2 event e1 1\n"},
                 "the tokens of e1 do not follow each other",

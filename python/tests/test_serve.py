@@ -9,17 +9,17 @@ import shutil
 import subprocess
 import sys
 import time
-import tomllib
 import unittest
 from unittest import mock
+
+import tomllib
 
 from corpus import COMPANION, EVENT, INSTANCE, TML, TOP, CorpusTest, document
 from processes import BARE
 from serving import ServeTest
-
-from tml_corpus.serve.server import Server
 from tml_corpus.serve.inbox import Message
 from tml_corpus.serve.places import UTF_8, UTF_16, ClientPlaces
+from tml_corpus.serve.server import Server
 
 HERE = os.path.dirname(os.path.abspath(__file__))
 DAYS = '<TIMEX3 tid="t1" type="DATE" value="1998-02-26">Thursday</TIMEX3> <TIMEX3 tid="t2" type="DATE" value="1998-02-27">Friday</TIMEX3>\n'
@@ -287,15 +287,21 @@ class Protocol(ServeTest):
     def test_a_wire_that_is_broken(self) -> None:
         for sent in (b"Content-Length: x\r\n\r\n", b"Content-Length: 99999999999\r\n\r\n", b"x" * 9000, b"Content-Length: 9\r\n\r\n{"):
             with self.subTest(sent[:40]):
-                done = subprocess.run(
-                    [*BARE, COMPANION, "serve", "--tml", TML], input=sent, capture_output=True, check=False, timeout=60
-                )
+                done = subprocess.run([*BARE, COMPANION, "serve", "--tml", TML], input=sent, capture_output=True, check=False, timeout=60)
                 self.assertEqual((done.returncode, done.stdout, done.stderr.count(b"\n")), (2, b"", 1))
 
     def test_hostile_documents(self) -> None:
         client = self.client()
         texts = [
-            "", "\ud800", "\0", "<", "<TimeML", "&" * 5000, "<TimeML>" * 40, "<TimeML>\r\ud83d" + "é" * 9000 + "<EVENT ", "x" * 4_200_000
+            "",
+            "\ud800",
+            "\0",
+            "<",
+            "<TimeML",
+            "&" * 5000,
+            "<TimeML>" * 40,
+            "<TimeML>\r\ud83d" + "é" * 9000 + "<EVENT ",
+            "x" * 4_200_000,
         ]
         texts += [document('<TLINK relType="' + "A" * 100_000 + '"/>' * 3), document("<EVENT/>" * 20_000), "\ufeff" + document("<EVENT/>")]
         self.opened(client, document("x"))
@@ -307,7 +313,10 @@ class Protocol(ServeTest):
                     where = {"line": line, "character": character}
                     for method in ("hover", "definition", "completion", "references", "documentSymbol", "codeAction", "prepareRename"):
                         given = {
-                            "position": where, "context": {}, "range": {"start": where, "end": where}, "textDocument": {"uri": self.uri()}
+                            "position": where,
+                            "context": {},
+                            "range": {"start": where, "end": where},
+                            "textDocument": {"uri": self.uri()},
                         }
                         client.send(client.request(f"textDocument/{method}", given))
                         self.assertNotIn("error", client.answer(client.number), method)

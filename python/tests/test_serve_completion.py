@@ -6,7 +6,6 @@ import unittest
 
 from corpus import TML, CorpusTest, document, needs_matrix
 from serving import Client, Json, ServeTest
-
 from tml.statuses import BASE_RELATIONS, BESIDE_BASE, RELATIONS
 from tml_corpus.asking.program import Program
 from tml_corpus.serve.possible import blanked, possible
@@ -71,7 +70,7 @@ class Completion(ServeTest):
             (
                 ('<TLINK eventInstanceID="i1" relatedToEventInstance="i3" relType=""/>', 'relType=""', 9),
                 ('<TLINK relType="" eventInstanceID="i1" relatedToEventInstance="i3"/>', 'relType=""', 9),
-                ("<TLINK relType='BE eventInstanceID=\"i1\" relatedToEventInstance=\"i3\"/>", "relType='BE", 11),
+                ('<TLINK relType=\'BE eventInstanceID="i1" relatedToEventInstance="i3"/>', "relType='BE", 11),
                 ('<TLINK eventInstanceID="i1" relatedToEventInstance="i3" relType="\n', 'relType="\n', 9),
                 ('<TLINK eventInstanceID="i3" relatedToEventInstance="i1" relType="AFTER"/>', 'relType="AFTER', 10),
             ),

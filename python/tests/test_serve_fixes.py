@@ -15,7 +15,6 @@ from corpus import EVENT, INSTANCE, TML, TOP, CorpusTest, document, needs_matrix
 from serving import Json, ServeTest, done, state_of
 from slips import SLIPS
 from stories import Story
-
 from tml.statuses import RELATIONS
 from tml.tags.profile import CLASS
 from tml_corpus.asking.program import File, Reply
@@ -266,7 +265,7 @@ class Splitting(ServeTest):
         self.assertEqual(file_beside("file:///none/a.b/c"), "file:///none/a.b/c.2")
 
     def test_a_document_whose_end_was_lost(self) -> None:
-        state = state_of(document(EVENT)[:-len("</TimeML>")] + document("a"))
+        state = state_of(document(EVENT)[: -len("</TimeML>")] + document("a"))
         at = state.text.rindex(b"<TimeML>")
         found = actions(state, (at, at), [QUICK_FIX])
         self.assertIn(state.text[:at], [done(state, one) for one in found])

@@ -8,8 +8,7 @@ from corpus import EVENT, INSTANCE, document
 from serving import Client, Json, ServeTest
 
 TIMES = (
-    '<TIMEX3 tid="t1" type="DATE" value="1998">year</TIMEX3> '
-    '<TIMEX3 tid="t2" type="DATE" value="2001" anchorTimeID="t1">next</TIMEX3>\n'
+    '<TIMEX3 tid="t1" type="DATE" value="1998">year</TIMEX3> ' '<TIMEX3 tid="t2" type="DATE" value="2001" anchorTimeID="t1">next</TIMEX3>\n'
 )
 LINKS = (
     '<TLINK lid="l1" eventInstanceID="i1" relatedToTime="t1" relType="BEFORE"/>\n'
@@ -96,8 +95,10 @@ class Rename(ServeTest):
         client = self.client()
         for version, (text, why) in enumerate(
             (
-                (TEXT.replace('anchorTimeID="t1"', 'anchorTimeID="t9"'), "the TIMEX3 at 3:57 refers to t9, which no tag has: mend that "
-                    "first"),
+                (
+                    TEXT.replace('anchorTimeID="t1"', 'anchorTimeID="t9"'),
+                    "the TIMEX3 at 3:57 refers to t9, which no tag has: mend that " "first",
+                ),
                 (TEXT.replace('tid="t2"', 'tid="t1"'), "two tags have the identifier t1, at 3:1 and 3:57: mend that first"),
                 (TEXT.replace("<TLINK", "<TLINK x", 1), "not known while the markup is not well formed"),
             ),

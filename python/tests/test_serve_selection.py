@@ -8,7 +8,6 @@ import unittest
 
 from corpus import EVENT, INSTANCE, TOP, CorpusTest, document
 from serving import Json, done, state_of
-
 from tml.statuses import INTERVAL_LIMIT
 from tml_corpus.check.fix import first_fault
 from tml_corpus.serve.actions import actions
@@ -16,7 +15,7 @@ from tml_corpus.serve.document import OpenDocument
 
 ANNOTATE = "refactor.rewrite"
 TEXT = document(
-    f'<s>The bank of {EVENT} on 1998-01-07 &amp; <ENAMEX>Lund</ENAMEX> fell.</s>\n{INSTANCE}\n'
+    f"<s>The bank of {EVENT} on 1998-01-07 &amp; <ENAMEX>Lund</ENAMEX> fell.</s>\n{INSTANCE}\n"
     '<TLINK eventInstanceID="i1" relatedToEventInstance="i1" relType="IDENTITY"/>\n'
 )
 
@@ -62,7 +61,7 @@ class Selection(CorpusTest):
 
     def test_spaces_around_the_words_and_tags_among_them(self) -> None:
         state = state_of(TEXT)
-        self.assertIn(b'>&amp; <ENAMEX>Lund</ENAMEX> fell</EVENT>.', done(state, selected(state, " &amp; <ENAMEX>Lund</ENAMEX> fell")[0]))
+        self.assertIn(b">&amp; <ENAMEX>Lund</ENAMEX> fell</EVENT>.", done(state, selected(state, " &amp; <ENAMEX>Lund</ENAMEX> fell")[0]))
         self.assertEqual(selected(state, "Lund")[0]["title"], 'Annotate "Lund" as an EVENT with its MAKEINSTANCE')
 
     def test_where_nothing_can_be_made(self) -> None:

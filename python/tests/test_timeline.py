@@ -351,7 +351,10 @@ class NotDrawn(TimelineTest):
 
     def test_answers_that_do_not_belong_together(self) -> None:
         for answer in (
-            "solve ] && echo fault 10 MissingAttribute 9 && exit 1", "solve ] && exit 2", "solve ] && exit 6", "dates ] && exit 0"
+            "solve ] && echo fault 10 MissingAttribute 9 && exit 1",
+            "solve ] && exit 2",
+            "solve ] && exit 6",
+            "dates ] && exit 0",
         ):
             with self.subTest(answer):
                 fake = self.fake(f'[ $1 = {answer}\nexec {TML} "$@"')

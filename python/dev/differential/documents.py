@@ -33,7 +33,7 @@ XML_TEXTS = (
     "?>", "\u00a0", "\ufeff",
 )  # fmt: skip
 TEXTS = (*XML_TEXTS, "&#0;", "\x00\x1f", "&#9999999;&#xFFFFFF;", "x ]]> z")
-XML_COMMENTS = ("<!---->", "<!-- a -->", "<!-- & < > \" -->", "<!--\n\u00e9-->", "<!--<TLINK/>-->")
+XML_COMMENTS = ("<!---->", "<!-- a -->", '<!-- & < > " -->', "<!--\n\u00e9-->", "<!--<TLINK/>-->")
 COMMENTS = (*XML_COMMENTS, "<!--->-->", "<!-- -- -->", "<!----->")
 XML_HEADS = ("", "", "\ufeff", '<?xml version="1.0"?>', '<?xml version="1.0" ?>\n', "<!-- before -->")
 HEADS = ("", "", "", "\ufeff", '<?xml version="1.0"?>', '<?xml version="1.0" ?>\n', "\ufeff<?xml ?>", "<?xml\t&<>?>", " \n")

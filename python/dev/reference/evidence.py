@@ -192,7 +192,6 @@ class Reading:
         cites = self.cites(int(words[0]))
         return Clash(cites, self.walk(), tuple(self.timeline() for _ in cites))
 
-
     def claims(self) -> Claims:
         """Takes a whole text, of the version that its first line says."""
         version, _ = self.take(b"tml-evidence 1", b"tml-evidence 2")

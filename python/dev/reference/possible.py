@@ -50,9 +50,7 @@ def example_of(relation: bytes) -> tuple[Interval, Interval]:
     return next((first, second) for first in intervals for second in intervals if holds(first, relation, second))
 
 
-SIGNS = {
-    relation: tuple(sign(one, other) for one, other in itertools.product(*example_of(relation))) for relation in BASE_RELATIONS
-}
+SIGNS = {relation: tuple(sign(one, other) for one, other in itertools.product(*example_of(relation))) for relation in BASE_RELATIONS}
 """Of each base relation how the start and then the end of the first interval stand to the start and then to the end of the other."""
 
 

@@ -83,9 +83,7 @@ TABLE: Mapping[bytes, Row] = {
             b"tid": Identifier(),
             b"type": listed("DATE TIME DURATION SET"),
             b"value": AnyText(),
-            b"mod": listed(
-                "BEFORE AFTER ON_OR_BEFORE ON_OR_AFTER LESS_THAN MORE_THAN EQUAL_OR_LESS EQUAL_OR_MORE START MID END APPROX"
-            ),
+            b"mod": listed("BEFORE AFTER ON_OR_BEFORE ON_OR_AFTER LESS_THAN MORE_THAN EQUAL_OR_LESS EQUAL_OR_MORE START MID END APPROX"),
             b"functionInDocument": listed(
                 "CREATION_TIME EXPIRATION_TIME MODIFICATION_TIME PUBLICATION_TIME RELEASE_TIME RECEPTION_TIME NONE"
             ),

@@ -69,9 +69,7 @@ def text_of(source: Source, tag: Unit) -> str:
 def html_of_clash(clash: Clash) -> str:
     """A clash: a row for each of its links, in the words of the document."""
     words = words_of(clash.content)
-    rows = (
-        row_of_cells(link.called(), [interval(link.first, words), link.relation, interval(link.second, words)]) for link in clash.links
-    )
+    rows = (row_of_cells(link.called(), [interval(link.first, words), link.relation, interval(link.second, words)]) for link in clash.links)
     dated = " by the dates of the document" if any(step.kind == "calendar" for step in clash.walk) else ""
     return table(f"{counted(len(clash.links), 'link')} that cannot all be true{dated}", rows)
 
@@ -96,9 +94,7 @@ def html_of_matrix(matrix: Matrix) -> str:
     """A matrix: what the interval of a row can be to that of a column. Of several relations it has the number, and the names as a hint."""
     names = list(matrix.intervals[:MOST_INTERVALS])
     head = element("tr", element("td"), [element("th", name, scope="col", style=CELL) for name in names])
-    rows = (
-        row_of_cells(name, [cell_of(matrix, row, column) for column in range(len(names))]) for row, name in enumerate(names)
-    )
+    rows = (row_of_cells(name, [cell_of(matrix, row, column) for column in range(len(names))]) for row, name in enumerate(names))
     left_out = len(matrix.intervals) - len(names)
     caption = "what a row can be to a column" + (f"; {counted(left_out, 'interval')} not shown" if left_out else "")
     return table(caption, (head, *rows))
@@ -151,7 +147,5 @@ def row_of(row: Row, place: int) -> Child:
     hint, y = f"{cut_short(label, 200)}: ranks {row.start} to {row.end}{date}", HEIGHT * place
     words = element("text", cut_short(label), x=LEFT - 10, y=y + 15, text_anchor="end", fill="#111", unicode_bidi="isolate")
     left, width = LEFT + RANK * row.start, RANK * (row.end - row.start)
-    bar = element(
-        "rect", element("title", hint), x=left, y=y + (HEIGHT - BAR) // 2, width=width, height=BAR, rx=2, fill=COLOURS[row.kind]
-    )
+    bar = element("rect", element("title", hint), x=left, y=y + (HEIGHT - BAR) // 2, width=width, height=BAR, rx=2, fill=COLOURS[row.kind])
     return [words, bar]

@@ -85,6 +85,7 @@ OTHER = {
 }
 """The commands that may end with a status, where not all may, and the text that goes with it."""
 
+
 def kind_of(text: bytes) -> bytes:
     """The kind of the one claim that a text of evidence has, by its first word; nothing where it does not begin so."""
     found = re.match(KIND, text)

@@ -315,7 +315,7 @@ def lost_instance(source: Source, name: str) -> str:
     if len(events) > 1:
         return (
             f'it was probably lost: add <MAKEINSTANCE eiid="{name}" eventID=".."/> for one of the events without an '
-            f'instance, {some(events)}'
+            f"instance, {some(events)}"
         )
     return f"it was probably lost: add {new_instance(source, name, events[0])}"
 

@@ -19,8 +19,7 @@ from .units import EMPTY, END, KINDS, START, TEXT, Attribute, Cutter, Units, rea
 
 NAME = rb"[A-Za-z_:\x80-\xff][A-Za-z0-9_:.\x80-\xff-]*+"
 UNIT = re.compile(
-    rb"[^<]++|</?+%s[^<>\"']*+(?:(?:\"[^\"]*+\"|'[^']*+')[^<>\"']*+)*+>"
-    rb"|<!--(?s:.*?)-->|<!DOCTYPE[^<>]*+>|<\?xml(?s:.*?)\?>" % NAME
+    rb"[^<]++|</?+%s[^<>\"']*+(?:(?:\"[^\"]*+\"|'[^']*+')[^<>\"']*+)*+>|<!--(?s:.*?)-->|<!DOCTYPE[^<>]*+>|<\?xml(?s:.*?)\?>" % NAME
 )
 TAG_NAME = re.compile(rb"</?+(%s)" % NAME)
 ATTRIBUTE = re.compile(rb"(%s)[ \t\r\n]*+=[ \t\r\n]*+(?:\"[^\"]*+\"|'[^']*+')" % NAME)

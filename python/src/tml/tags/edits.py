@@ -8,7 +8,6 @@ from typing import NamedTuple
 
 from .units import Attribute, Unit
 
-
 MOST_COMBINED = 24
 """How many ways to mend several slips at once are looked at."""
 

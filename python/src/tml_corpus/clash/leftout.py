@@ -120,4 +120,3 @@ def written(document: bytes, tag: Unit, relation: str | None) -> bytes:
         edit = with_value(attribute, document, relation.encode())
         text = document[start : edit.start] + edit.text + document[edit.end : tag.end]
     return text if tag.kind == "empty" else text + b"</%s>" % tag.name.encode()
-

@@ -11,8 +11,8 @@ from tml.tags.source import Source
 
 from ..asking.program import CLASH, FAULT, CannotRun, Program, Reply
 from ..check.judgement import Judgement
-from ..check.placed import PlacedNote
 from ..check.judging import judge_document, placed_warnings
+from ..check.placed import PlacedNote
 from ..document.words import Wording
 from ..files.finding import Found
 from .clashes import Clash, evidence_name, read_clash, verify_clash

@@ -333,9 +333,7 @@ def parser() -> ProgramParser:
     words.add_argument("--write", action="store_true", help="overwrite the files with the changed documents")
     words.add_argument("--glob", action="append", metavar="PATTERN", help=f"names to look for in folders (default {' '.join(PATTERNS)})")
     words.add_argument("--rename", type=renaming, action="append", default=[], metavar="OLD=NEW", help="rename tags")
-    words.add_argument(
-        "--unwrap", type=names_of, action="extend", default=[], metavar="NAMES", help="remove tags, and keep what they hold"
-    )
+    words.add_argument("--unwrap", type=names_of, action="extend", default=[], metavar="NAMES", help="remove tags, and keep what they hold")
     words.add_argument(
         "--value",
         type=utf8,

@@ -104,8 +104,7 @@ def nested_tag(source: Source) -> Iterator[Suspect]:
             where = source.at(outer.start)
             yield Suspect(
                 tag,
-                f"this {tag.name} is inside the {outer.name} at {where}: see which words each belongs to, and "
-                f"whether one is too many",
+                f"this {tag.name} is inside the {outer.name} at {where}: see which words each belongs to, and whether one is too many",
                 choices=partial(without_one, source, tag, outer),
             )
         if units.kinds[row] == START:

@@ -24,7 +24,6 @@ from .documents import Entry, Examined, entry_of, free_dates
 from .frame import coded, framed, isolated, listed, section
 from .text import Words, marked_text
 
-
 RING = 240.0
 """How broad the ring of a clash is, in points."""
 

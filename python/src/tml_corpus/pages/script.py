@@ -5,7 +5,7 @@ from __future__ import annotations
 from .arcs_script import ARCS
 from .stops_script import STOPS
 
-INDEX_SCRIPT = """
+INDEX_TEXT = """
 "use strict";
 const table = document.getElementById("documents");
 const body = table.tBodies[0];
@@ -40,7 +40,7 @@ const sortBy = (head, column) => {
   body.append(...rows);
   toFirstName();
 };
-""" + STOPS + """
+@STOPS@
 heads.forEach((head, column) => {
   const button = document.createElement("button");
   button.type = "button";
@@ -84,8 +84,9 @@ document.querySelectorAll("[data-search]").forEach((head) => {
 document.querySelectorAll(".totals table").forEach((one) => together(Array.from(one.querySelectorAll("button"))));
 look();
 """
+INDEX_SCRIPT = INDEX_TEXT.replace("@STOPS@", STOPS)
 
-DOCUMENT_SCRIPT = """
+DOCUMENT_TEXT = """
 "use strict";
 const SVG = "http://www.w3.org/2000/svg";
 const byId = (name) => document.getElementById(name);
@@ -155,7 +156,7 @@ const both = (word, bar, one, other) => {
     near(other());
   });
 };
-""" + STOPS + """
+@STOPS@
 const words = Array.from(document.querySelectorAll(".text .mark[data-intervals]")).filter((word) => word.dataset.intervals !== "");
 words.forEach((word) => both(word, null, word, () => barsOf(word)[0]));
 together(words);
@@ -173,7 +174,7 @@ document.addEventListener("keydown", (event) => {
   panel.replaceChildren();
 });
 
-""" + ARCS + """
+@ARCS@
 const draw = () => {
   const ofPinned = pinned ? ofWord.get(pinned.id) || [] : [];
   drawArcs([...new Set([...drawn, ...ofPinned])].filter((link) => byId(link.dataset.left) && byId(link.dataset.right)));
@@ -236,3 +237,4 @@ document.querySelectorAll(".walk").forEach((list) => {
   together(walk.map((step) => step.querySelector("button")));
 });
 """
+DOCUMENT_SCRIPT = DOCUMENT_TEXT.replace("@STOPS@", STOPS).replace("@ARCS@", ARCS)

@@ -12,8 +12,8 @@ from dataclasses import dataclass
 from itertools import groupby
 
 from tml.markup import NOTHING, Markup, element, harmless, tags, together
-
 from tml.tags.units import EMPTY, END, START, TEXT
+
 from ..document.words import Wording
 from ..timeline.lettering import plain
 

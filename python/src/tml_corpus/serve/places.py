@@ -12,6 +12,7 @@ from itertools import accumulate
 
 from tml.places import BLOCK
 from tml.tags.edits import Edit
+
 from .wire import Json, member
 
 UTF_8, UTF_16 = "utf-8", "utf-16"

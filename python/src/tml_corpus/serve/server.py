@@ -29,7 +29,8 @@ from .ending import end_by_signals
 from .findings import ERROR, findings, has_further, problem_finding, remark_finding
 from .inbox import Inbox, Message, Unreadable
 from .places import UTF_8, UTF_16
-from .wire import (
+
+from .wire import (  # isort: skip
     BAD_PARAMS, CANCELLED, ENDING, FAILED, INTERNAL, INVALID, MODIFIED, NOT_INITIALIZED, PARSE, UNKNOWN, BadParams, Incoming, Json, Refused,
     member, send,
 )  # fmt: skip

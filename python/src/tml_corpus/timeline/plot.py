@@ -8,8 +8,9 @@ from typing import Protocol
 
 from tml.markup import Markup, element, lined, number, together
 
-from .bars import GAP, anywhere, bar_of, is_moving, whisker
+from .bars import GAP
 from .bars import ROW as ROW_HEIGHT
+from .bars import anywhere, bar_of, is_moving, whisker
 from .lettering import measured
 from .rows import Row, Timeline
 
