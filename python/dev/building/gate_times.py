@@ -1,14 +1,13 @@
 """Measures the merge gate: the processor time of each check that `rt ci` makes, and of the functions of a crate.
 
-    tools/gate-times run LOG               runs `rt ci` at the top of this repository, and writes a line for each check to LOG
-    tools/gate-times table LOG             prints the processor time of each crate: its proof, its tests, its edits that must fail
+    tools/gate-times watch LOG PROCESS     writes a line to LOG for each check that a process below PROCESS makes, until SIGTERM
+    tools/gate-times table LOG [N]         prints the processor time of the N slowest crates: proof, tests, edits that must fail
     tools/gate-times slowest N CRATE..     prints the N slowest functions and files of lemmas of these crates
 
-The log has a JSON object a line. `rt ci` starts the prover once for each proof, each crate's tests and each edit: here a
-recorder stands in the prover's place, which runs it and notes when it began and ended and what `getrusage` says of it.
-`slowest` checks each crate once more from nothing, over the libraries that `rt ci` left in crates/*/out, with work kept in a
-folder: the prover writes a file there for each module that it has checked, so its time is the processor time since the file
-before. The modules X.Lts, X.Proof and X.Tie are the proof of a function X.
+The log has a JSON object a line. `rt ci` starts the prover once for each proof, each crate's tests and each edit. `watch` reads four
+times a second in /proc which of them run, and what each has used. `slowest` checks each crate once more from nothing, over the
+libraries that `rt ci` left in crates/*/out, with work kept in a folder: the prover writes a file there for each module that it has
+checked, so its time is the processor time since the file before. The modules X.Lts, X.Proof and X.Tie are the proof of a function X.
 """
 
 from __future__ import annotations
@@ -18,39 +17,40 @@ import importlib.util
 import json
 import os
 import re
-import resource
 import shutil
 import signal
 import subprocess
 import sys
 import tempfile
+import threading
 import time
 from bisect import bisect_right
 from collections import Counter, defaultdict
-from collections.abc import Iterator, Sequence
+from collections.abc import Iterator, Mapping, Sequence
 from contextlib import suppress
 from dataclasses import asdict, dataclass
 from heapq import nlargest
 from operator import itemgetter
 from pathlib import Path
 from types import ModuleType
+from typing import NamedTuple
 
 TOP = Path(__file__).resolve().parents[3]
 PART_OF_PROOF = re.compile(r"\.(Lts|Proof|Tie|Reads|Code|Mir|Statement|Met|Key|TheLink|Symbol|Borrows)(\..*)?$")
+PROVER = "rattle"
+INTERVAL = 0.25
+"""How many seconds `watch` waits before it looks again."""
 
 
-@dataclass(frozen=True)
+@dataclass
 class Check:
-    """One run of the prover: of which crate, for its proof, its tests, an edit or a program, and what it took."""
+    """One run of the prover: of which crate, for its proof, its tests, an edit or a program, and what it has used so far."""
 
     crate: str
     kind: str
     begun: float
     ended: float
     processor: float
-    memory: int
-    """The most memory that it held, in KiB."""
-    status: int
 
 
 def kit() -> ModuleType:
@@ -67,7 +67,7 @@ def kit() -> ModuleType:
 
 
 def kind_of(words: Sequence[str], folder: str) -> str | None:
-    """What a run of the prover with these words is for; None where it checks nothing."""
+    """What a run of the prover with these words is for; None if it checks nothing."""
     if words[:1] not in (["check"], ["build"]) or "--help" in words:
         return None
     if "--crate-checked" in words:
@@ -77,40 +77,60 @@ def kind_of(words: Sequence[str], folder: str) -> str | None:
     return "tests" if "--test" in words else "proof"
 
 
-def record(log: str, prover: str, words: list[str]) -> int:
-    """Runs the prover with these words, appends what it took to the log, and ends as it ended."""
-    kind = kind_of(words, os.getcwd())
-    if kind is None:
-        os.execv(prover, [prover, *words])
-    begun = time.time()
-    status = subprocess.run([prover, *words], check=False).returncode
-    used = resource.getrusage(resource.RUSAGE_CHILDREN)
-    crate = words[words.index("--crate-name") + 1]
-    made = Check(crate, kind, begun, time.time(), used.ru_utime + used.ru_stime, used.ru_maxrss, status)
-    with open(log, "a", encoding="utf-8") as out:
-        out.write(json.dumps(asdict(made)) + "\n")
-    if status < 0:
-        signal.signal(-status, signal.SIG_DFL)
-        os.kill(os.getpid(), -status)
-    return status
+class Process(NamedTuple):
+    """A process by its number and the time at which it began, since numbers come again, with its parent and the seconds it has used."""
+
+    number: int
+    begun: int
+    parent: int
+    processor: float
 
 
-def run(log: str) -> int:
-    """Runs `rt ci` with the recorder in the prover's place."""
-    log, rt = os.path.abspath(log), kit()
-    Path(log).write_text("", encoding="utf-8")
-    os.chdir(TOP)
-    with tempfile.TemporaryDirectory(prefix="gate-times-") as room:
-        recorder = Path(room, "rattle")
-        words = f"{sys.executable} -S {os.path.abspath(__file__)} --record {log} {rt.rtlib.RATTLE}"
-        recorder.write_text(f'#!/bin/sh\nexec {words} "$@"\n', encoding="utf-8")
-        recorder.chmod(0o755)
-        rt.rtlib.RATTLE = str(recorder)
-        return int(rt.main(["ci"]))
+def processes() -> Iterator[Process]:
+    """The processes of this machine."""
+    for name in filter(str.isdigit, os.listdir("/proc")):
+        with suppress(OSError, IndexError):
+            fields = Path("/proc", name, "stat").read_text(encoding="utf-8").rpartition(")")[2].split()
+            yield Process(int(name), int(fields[19]), int(fields[1]), sum(map(int, fields[11:13])) / os.sysconf("SC_CLK_TCK"))
 
 
-def table(log: str) -> Iterator[str]:
-    """The processor time by crate, the slowest first, as a table."""
+def check_of(process: Process) -> Check | None:
+    """The check that a process makes; None if it is another program."""
+    with suppress(OSError):
+        words = Path(f"/proc/{process.number}/cmdline").read_text(encoding="utf-8").split("\0")
+        if os.path.basename(words[0]) == PROVER and "--crate-name" in words:
+            kind = kind_of(words[1:], os.readlink(f"/proc/{process.number}/cwd"))
+            return Check(words[words.index("--crate-name") + 1], kind, time.time(), time.time(), 0.0) if kind else None
+    return None
+
+
+def watch(log: str, top: int) -> int:
+    """Notes what each check takes that is made below a process, until SIGTERM."""
+    ending = threading.Event()
+    signal.signal(signal.SIGTERM, lambda *_: ending.set())
+    known: dict[tuple[int, int], Check] = {}
+    while not ending.wait(INTERVAL):
+        present = {process.number: process for process in processes()}
+        for process in present.values():
+            key = process.number, process.begun
+            # A process is the prover only once it has become another program than its parent.
+            check = known.get(key) or (check_of(process) if is_below(process, top, present) else None)
+            if check is not None:
+                known[key] = check
+                check.ended, check.processor = time.time(), process.processor
+    Path(log).write_text("".join(json.dumps(asdict(check)) + "\n" for check in known.values()), encoding="utf-8")
+    return 0
+
+
+def is_below(process: Process, top: int, present: Mapping[int, Process]) -> bool:
+    """Whether a process is one of those that another has begun, or that these have."""
+    while process.parent in present and process.number != top:
+        process = present[process.parent]
+    return process.number == top
+
+
+def table(log: str, count: int | None = None) -> Iterator[str]:
+    """The processor time by crate, the slowest first, as a table of so many crates or of all."""
     with open(log, encoding="utf-8") as lines:
         checks = [Check(**json.loads(line)) for line in lines]
     seconds: defaultdict[tuple[str, str], float] = defaultdict(float)
@@ -118,10 +138,13 @@ def table(log: str) -> Iterator[str]:
     for check in checks:
         seconds[check.crate, check.kind] += check.processor
         edits[check.crate] += check.kind == "edit"
+    if not checks:
+        yield "no crate was checked: all of them are kept from earlier runs"
+        return
     whole = {crate: sum(seconds[crate, kind] for kind in ("proof", "tests", "edit", "program")) for crate, _ in list(seconds)}
     yield "| crate | proof | tests | edits: checks | edits: seconds | all |"
     yield "|---|---|---|---|---|---|"
-    for crate, total in sorted(whole.items(), key=itemgetter(1), reverse=True):
+    for crate, total in sorted(whole.items(), key=itemgetter(1), reverse=True)[:count]:
         proof = seconds[crate, "proof"] + seconds[crate, "program"]
         yield f"| {crate} | {proof:.0f} | {seconds[crate, 'tests']:.0f} | {edits[crate]} | {seconds[crate, 'edit']:.0f} | {total:.0f} |"
     kinds = [sum(check.processor for check in checks if check.kind in of) / 60 for of in (("proof", "program"), ("tests",), ("edit",))]
@@ -181,12 +204,13 @@ def slowest(count: int, names: Sequence[str]) -> Iterator[str]:
 
 def main(words: list[str]) -> int:
     match words:
-        case ["--record", log, prover, *rest]:
-            return record(log, prover, rest)
-        case ["run", log]:
-            return run(log)
+        case ["watch", log, process] if process.isdigit():
+            return watch(log, int(process))
         case ["table", log]:
             print("\n".join(table(log)))
+            return 0
+        case ["table", log, count] if count.isdigit():
+            print("\n".join(table(log, int(count))))
             return 0
         case ["slowest", count, _, *_] if count.isdigit():
             print("\n".join(slowest(int(count), words[2:])))
