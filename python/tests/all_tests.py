@@ -70,7 +70,7 @@ def main(arguments: Sequence[str]) -> int:
 
 
 def run_all(names: Sequence[str], whole: bool) -> int:
-    """Runs these files of tests and answers the status. With `whole`, a test that is skipped has failed unless the machine is the reason."""
+    """Runs these files of tests and answers the status. With `whole`, a skipped test has failed, unless the machine is the reason."""
     passed = 0
     failed: set[str] = set()
     skipped: list[Skipped] = []

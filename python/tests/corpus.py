@@ -46,6 +46,7 @@ def forms() -> list[str]:
     return done.stdout.splitlines()
 
 
+needs_root = unittest.skipUnless(os.geteuid() == 0, "not run as root: only root can make files of other users, and work as one of them")
 needs_matrix = unittest.skipUnless("tml matrix DOC" in forms(), f"no program {TML} that has the commands possible and matrix")
 needs_seconds = unittest.skipUnless("tml seconds DOC" in forms(), f"no program {TML} that has the commands seconds and confirm")
 needs_score = unittest.skipUnless("tml score DOC KEY" in forms(), f"no program {TML} that has the commands reduce and score")

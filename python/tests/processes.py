@@ -42,6 +42,12 @@ def children_of(number: int) -> set[int]:
     return {child for child in processes if state_and_parent(child)[1] == number}
 
 
+def processor_time_of(number: int) -> float:
+    """How many seconds of processor time a process has taken, with its children that have ended."""
+    fields = Path(f"/proc/{number}/stat").read_text(encoding="utf-8").rsplit(") ", 1)[1].split()
+    return sum(map(int, fields[11:15])) / os.sysconf("SC_CLK_TCK")
+
+
 def interrupt(child: subprocess.Popen[bytes]) -> None:
     """Sends Ctrl-C to a process, and waits until it has taken note: the signal woke it, and it sleeps again or has ended."""
     child.send_signal(signal.SIGINT)
