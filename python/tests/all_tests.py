@@ -1,12 +1,11 @@
-"""Runs all tests of the Python code: `tools/tests`, or those of some files: `tools/tests test_check test_fix`. With `--installed` before
-these they are of what `pip install` installs, into a folder for this run, and not of the clone.
+"""Runs all tests of the Python code, in the environment that environment.py makes: `tools/tests` starts it.
 
-The last line is `N passed, 0 failed`, and the status is 0 where none failed. Each file of tests is run in a process of its own, one more
-at once than there are processors, since in many of them something is waited for; those that take longest begin first. These processes are
-forked from this one, which has imported what the files share: to do that in each of them took a tenth of the time of all tests. What is
-skipped for want of another program is named, and counts as neither.
+Each file of tests is run in a process of its own, one more at once than there are processors, since many of them wait for something; those
+that take longest begin first. These processes are forked from this one, which has imported what the files share: to do that in each of them
+took a tenth of the time of all tests.
 """
 
+import argparse
 import os
 import subprocess
 import sys
@@ -16,9 +15,12 @@ from multiprocessing.connection import Connection, wait
 from multiprocessing.process import BaseProcess
 from pathlib import Path
 
+TESTS = Path(__file__).resolve().parent
+sys.path[:0] = [os.environ.get("TML_INSTALLED") or str(TESTS.parent / "src"), str(TESTS.parent / "dev"), str(TESTS)]
+
 from bytecode import compiled_once
 from installing import installed
-from one_file import Ran, run
+from one_file import Ran, Skipped, run
 
 LONGEST = (
     "test_attacks_documents", "test_library_rows", "test_library", "test_recipes", "test_corpus_library", "test_differential",
@@ -29,38 +31,73 @@ LONGEST = (
 """The files of tests that take longest, or wait longest."""
 
 
+OF_THE_MACHINE = ("not run as root", "no TeX", "no access lists", "no /proc", "of the clone alone")
+"""How the reasons begin for which a test may be skipped with `--whole`: what a machine may lack, or what is not in an installed package."""
+
+SLOWEST = 10
+"""How many files of tests are named as the slowest."""
+
+
+def parsed(arguments: Sequence[str]) -> argparse.Namespace:
+    """The options and names of the command line."""
+    parser = argparse.ArgumentParser(
+        prog="tests",
+        description="Runs the tests of the Python code. The last line is 'N passed, M failed', and the status is 0 if none failed.",
+    )
+    parser.add_argument("--whole", action="store_true", help="a skipped test has failed, unless the machine cannot run it")
+    parser.add_argument("--installed", action="store_true", help="test what pip installs into a new folder, and not the clone")
+    parser.add_argument("names", nargs="*", metavar="FILE", help="the files of tests, as test_check (default: all)")
+    return parser.parse_args(arguments)
+
+
 def chosen(words: Sequence[str]) -> list[str]:
     """The files of tests that words name, or all of them; those that take longest come first."""
-    present = {path.stem for path in Path(__file__).resolve().parent.glob("test_*.py")}
+    present = {path.stem for path in TESTS.glob("test_*.py")}
     names = {Path(word).stem for word in words} or present
     if names - present:
         sys.exit(f"tests: no file of tests {', '.join(sorted(names - present))}")
     return sorted(names, key=lambda name: (LONGEST.index(name) if name in LONGEST else len(LONGEST), name))
 
 
-def main(words: Sequence[str]) -> int:
+def main(arguments: Sequence[str]) -> int:
     """Runs the tests and answers the status."""
-    if words[:1] != ["--installed"]:
-        return run_all(chosen(words))
-    # What is installed is imported by a process that begins where it is there.
+    given = parsed(arguments)
+    if not given.installed or "TML_INSTALLED" in os.environ:
+        return run_all(chosen(given.names), given.whole)
+    # Another process imports what is installed.
     with installed():
-        return subprocess.run([sys.executable, sys.argv[0], *words[1:]], check=False).returncode
+        return subprocess.run([sys.executable, __file__, *arguments], check=False).returncode
 
 
-def run_all(names: Sequence[str]) -> int:
-    """Runs these files of tests and answers the status."""
+def run_all(names: Sequence[str], whole: bool) -> int:
+    """Runs these files of tests and answers the status. With `whole`, a skipped test has failed, unless the machine is the reason."""
     passed = 0
     failed: set[str] = set()
-    skipped: list[str] = []
+    skipped: list[Skipped] = []
+    seconds: dict[str, float] = {}
     with compiled_once():
         for name, ran in in_processes(names):
             print(f"{name}: {ran.printed.strip()}", flush=True)
             passed, failed = passed + ran.passed, failed | ran.failed
             skipped += ran.skipped
+            seconds[name] = ran.seconds
     for one in skipped:
-        print(f"skipped: {one}")
+        print(f"skipped: {one.test}: {one.reason}")
+        if whole and not one.reason.startswith(OF_THE_MACHINE):
+            failed.add(one.test)
+    print_slowest(seconds)
+    for test in sorted(failed):
+        print(f"failed: {test}")
     print(f"{passed} passed, {len(failed)} failed")
     return 1 if failed else 0
+
+
+def print_slowest(seconds: dict[str, float]) -> None:
+    """Prints the files of tests that took the most processor time."""
+    print("slowest files of tests, in seconds of processor time:")
+    slowest = sorted(seconds.items(), key=lambda pair: pair[1], reverse=True)
+    for name, taken in [*slowest[:SLOWEST], ("all files", sum(seconds.values()))]:
+        print(f"{taken:8.1f}  {name}")
 
 
 def in_processes(names: Sequence[str]) -> Iterator[tuple[str, Ran]]:
@@ -89,3 +126,7 @@ def in_processes(names: Sequence[str]) -> Iterator[tuple[str, Ran]]:
 def send(name: str, connection: Connection) -> None:
     """Runs a file of tests, and sends what came of it."""
     connection.send(run(name))
+
+
+if __name__ == "__main__":
+    sys.exit(main(sys.argv[1:]))

@@ -10,7 +10,7 @@ from typing import IO
 
 from corpus import CLASH, TML, TOOLS, CorpusTest, document
 from forked import run_forked
-from processes import BARE
+from processes import BARE, PATIENCE
 
 Stream = int | IO[bytes] | None
 
@@ -105,7 +105,7 @@ class AttackTest(CorpusTest):
         with open(self.path("out"), "wb") as out, open(self.path("error"), "wb") as error:
             said = error if stderr == subprocess.PIPE else stderr
             child = self.begin(command, tml, before, stdin=stdin, stdout=out, stderr=said, preexec_fn=preexec_fn, umask=umask)
-            ended = child.wait()
+            ended = child.wait(PATIENCE)
         printed, complained = (self.taken(name).decode("utf-8", "replace") for name in ("out", "error"))
         if not before:
             return Ended(ended, printed, complained)

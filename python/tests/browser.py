@@ -16,6 +16,7 @@ import unittest
 from typing import Any
 
 from corpus import needed
+from processes import PATIENCE
 
 Json = dict[str, Any]
 """An object of JSON, whose form is the business of the browser."""
@@ -27,9 +28,6 @@ WORDS = (
     "--headless", "--no-sandbox", "--disable-gpu", "--disable-dev-shm-usage", "--no-first-run", "--disable-extensions",
     "--hide-scrollbars",
 )  # fmt: skip
-PATIENCE = 60
-"""How many seconds the browser may say nothing where it is waited for."""
-
 IN_PIPES = 'exec "$@" 3<&0 4>&1 </dev/null >/dev/null 2>&1'
 
 

@@ -2,12 +2,11 @@
 
 import os
 import re
-import signal
 import stat
 import subprocess
-import sys
 import tempfile
 import unittest
+from collections.abc import Sequence
 from pathlib import Path
 from typing import TypeVar
 
@@ -22,11 +21,6 @@ TOP = os.path.dirname(os.path.dirname(os.path.dirname(os.path.abspath(__file__))
 TESTS = os.path.join(TOP, "python", "tests")
 TOOLS, SOURCES = os.path.join(INSTALLED or TOP, "tools"), INSTALLED or os.path.join(TOP, "python", "src")
 
-# In the background of a shell Ctrl-C is ignored, and would be by the programs that the tests interrupt.
-signal.signal(signal.SIGINT, signal.default_int_handler)
-# So is the end of a terminal under nohup.
-signal.signal(signal.SIGHUP, signal.SIG_DFL)
-
 COMPANION = os.path.join(TOOLS, "tml-corpus")
 TML = os.environ.get("TML") or os.path.join(TOP, "crates", "tml", "out", "tml")
 EVENT = '<EVENT eid="e1" class="STATE">x</EVENT>'
@@ -38,6 +32,11 @@ CLASH = '<TIMEX3 tid="a" type="SET"/><TLINK timeID="a" relatedToTime="a" relType
 
 INSTANCE = '<MAKEINSTANCE eiid="i1" eventID="e1"/>'
 
+HELD = """cd "${0%/*}"
+echo >> asked
+while [ "$(wc -l < asked)" -gt 400 ] && [ ! -e go ]; do sleep 0.05; done"""
+"""What a program in the place of `tml` does first that answers four hundred questions, and more once there is a file `go` next to it."""
+
 
 def forms() -> list[str]:
     """The lines of the usage text of the program; none where there is no program."""
@@ -47,6 +46,7 @@ def forms() -> list[str]:
     return done.stdout.splitlines()
 
 
+needs_root = unittest.skipUnless(os.geteuid() == 0, "not run as root: only root can make files of other users, and work as one of them")
 needs_matrix = unittest.skipUnless("tml matrix DOC" in forms(), f"no program {TML} that has the commands possible and matrix")
 needs_seconds = unittest.skipUnless("tml seconds DOC" in forms(), f"no program {TML} that has the commands seconds and confirm")
 needs_score = unittest.skipUnless("tml score DOC KEY" in forms(), f"no program {TML} that has the commands reduce and score")
@@ -114,16 +114,16 @@ class CorpusTest(unittest.TestCase):
         os.chmod(self.path("fake"), stat.S_IRWXU)
         return self.path("fake")
 
-    def start(self, *words: str, tml: str = TML, python: str = sys.executable) -> subprocess.Popen[bytes]:
+    def start(self, *words: str, tml: str = TML, python: Sequence[str] = BARE) -> subprocess.Popen[bytes]:
         command, *rest = words
         return subprocess.Popen(
-            [*(BARE if python == sys.executable else (python,)), COMPANION, command, "--tml", tml, *rest],
+            [*python, COMPANION, command, "--tml", tml, *rest],
             cwd=self.folder,
             stdin=subprocess.DEVNULL,
             stdout=subprocess.PIPE,
             stderr=subprocess.PIPE,
             env={
-                **(os.environ if python == sys.executable else with_own_bytecode()),
+                **(os.environ if python == BARE else with_own_bytecode()),
                 "PYTHONIOENCODING": "utf-8",
                 "PYTHONDONTWRITEBYTECODE": "1",
             },

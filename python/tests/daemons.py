@@ -1,17 +1,16 @@
 """A Dask scheduler and its workers, which a test starts and ends.
 
-They need the module `distributed` (of Debian: python3-distributed), here or at /usr/bin/python3.
+They need the module `distributed` (of Debian: python3-distributed).
 """
 
+import importlib.util
 import os
 import subprocess
 import tempfile
 import unittest
 
-from corpus import TML, CorpusTest, needed, text_at
-from processes import interpreter, until, with_own_bytecode
-
-PYTHON = interpreter("import sys, distributed; sys.exit(sys.version_info < (3, 11))")
+from corpus import TML, CorpusTest, text_at
+from processes import PATIENCE, WITH_PACKAGES, until, with_own_bytecode
 
 
 class Daemons:
@@ -35,7 +34,7 @@ class Daemons:
         log = os.path.join(self.folder, f"{len(self.children)}.log")
         with open(log, "wb") as file:
             child = subprocess.Popen(
-                [needed(PYTHON), "-m", f"distributed.cli.dask_{kind}", "--scheduler-file", self.file, *words],
+                [*WITH_PACKAGES, "-m", f"distributed.cli.dask_{kind}", "--scheduler-file", self.file, *words],
                 cwd=self.folder,
                 env=environment,
                 stdin=subprocess.DEVNULL,
@@ -48,12 +47,12 @@ class Daemons:
     def workers(self, number: int, *words: str) -> list[subprocess.Popen[bytes]]:
         """Starts workers, and waits until the scheduler knows them."""
         begun = [self.start("worker", "--host", "127.0.0.1", "--nthreads", "1", "--no-dashboard", *words) for _ in range(number)]
-        until(lambda: all("Registered to" in text_at(log) for _, log in begun), 60)
+        until(lambda: all("Registered to" in text_at(log) for _, log in begun))
         return [child for child, _ in begun]
 
     def address(self) -> str:
         """Where the scheduler can be reached, once it can."""
-        until(lambda: os.path.exists(self.file) and text_at(self.file).endswith("}"), 30)
+        until(lambda: os.path.exists(self.file) and text_at(self.file).endswith("}"))
         return next(line.split('"')[3] for line in text_at(self.file).splitlines() if '"address"' in line)
 
     def end(self) -> None:
@@ -61,14 +60,14 @@ class Daemons:
         for child in reversed(self.children):
             child.terminate()
             try:
-                child.wait(10)
+                child.wait(PATIENCE)
             except subprocess.TimeoutExpired:
                 child.kill()
                 child.wait()
         self.held.cleanup()
 
 
-needs_distributed = unittest.skipUnless(PYTHON, "no module distributed: install python3-distributed")
+needs_distributed = unittest.skipUnless(importlib.util.find_spec("distributed"), "no module distributed: install python3-distributed")
 
 
 @needs_distributed

@@ -24,6 +24,7 @@ from dataclasses import dataclass, field
 from pathlib import Path
 from typing import IO, NoReturn
 
+from processes import PATIENCE
 from tml_corpus.command_line.launch import MODULES
 
 LATER = ("pickle", "tml.library", "tml_corpus.asking.libraries")
@@ -80,7 +81,7 @@ class Forked:
 
 
 def run_forked(
-    program: str, *words: str, folder: str, given: bytes = b"", environment: Mapping[str, str] = os.environ, patience: float = 120
+    program: str, *words: str, folder: str, given: bytes = b"", environment: Mapping[str, str] = os.environ, patience: float = PATIENCE
 ) -> Ended:
     """Runs a program to its end, over some standard input."""
     with tempfile.TemporaryFile() as stdin, tempfile.TemporaryFile() as out, tempfile.TemporaryFile() as error:
@@ -91,7 +92,7 @@ def run_forked(
             status = child.wait(patience)
         finally:
             child.send_signal(signal.SIGKILL)
-            child.wait(patience)
+            child.wait(PATIENCE)
         out.seek(0)
         error.seek(0)
         return Ended(status, out.read(), error.read(), child.mebibytes)

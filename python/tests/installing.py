@@ -3,6 +3,7 @@
 from __future__ import annotations
 
 import contextlib
+import importlib.util
 import os
 import shutil
 import subprocess
@@ -12,20 +13,14 @@ from collections.abc import Iterator
 from pathlib import Path
 from unittest import mock
 
-from processes import interpreter, with_own_bytecode
+from processes import PATIENCE, WITH_PACKAGES, with_own_bytecode
 
 TOP = Path(__file__).resolve().parents[2]
 
-CAN_INSTALL = """
-import setuptools, pip
-try:
-    import setuptools.command.bdist_wheel
-except ImportError:
-    import wheel
-"""
-"""A script that runs where an interpreter can install a package without a network: setuptools of old need `wheel` to make one."""
+CAN_INSTALL = all(map(importlib.util.find_spec, ("pip", "setuptools", "wheel")))
+"""Whether a package can be installed without a network. Only setuptools before 70.1 need `wheel` to make one."""
 
-CANNOT = "no modules pip and setuptools by which a package can be made (setuptools before 70.1 need wheel too)"
+CANNOT = "no modules pip, setuptools and wheel: install python3-pip, python3-setuptools and python3-wheel"
 
 INSTALLED = os.environ.get("TML_INSTALLED")
 """The folder with the installed packages, where these are tested and not the clone."""
@@ -33,7 +28,7 @@ INSTALLED = os.environ.get("TML_INSTALLED")
 of_the_clone = unittest.skipIf(INSTALLED, "of the clone alone")
 
 
-def install(python: str, target: Path) -> None:
+def install(target: Path) -> None:
     """Installs the packages into a folder, from a copy of what pip reads."""
     with tempfile.TemporaryDirectory(prefix="source-") as name:
         source = Path(name)
@@ -41,8 +36,8 @@ def install(python: str, target: Path) -> None:
             shutil.copy(TOP / file, source)
         shutil.copytree(TOP / "python/src", source / "python/src", ignore=shutil.ignore_patterns("__pycache__"))
         words = ["--quiet", "--no-deps", "--no-index", "--no-build-isolation", "--no-compile", "--target", str(target), str(source)]
-        command, environment = [python, "-m", "pip", "install", *words], with_own_bytecode()
-        done = subprocess.run(command, env=environment, capture_output=True, text=True, check=False, timeout=300)
+        command, environment = [*WITH_PACKAGES, "-m", "pip", "install", *words], with_own_bytecode()
+        done = subprocess.run(command, env=environment, capture_output=True, text=True, check=False, timeout=PATIENCE)
     if done.returncode != 0:
         raise RuntimeError(done.stderr)
 
@@ -50,13 +45,12 @@ def install(python: str, target: Path) -> None:
 @contextlib.contextmanager
 def installed() -> Iterator[None]:
     """Has the processes that begin meanwhile test what is installed: they find the packages and the commands there."""
-    python = interpreter(CAN_INSTALL)
-    if python is None:
+    if not CAN_INSTALL:
         raise RuntimeError(CANNOT)
     with tempfile.TemporaryDirectory(prefix="installed-") as name:
         folder = Path(name)
         folder.chmod(0o755)
-        install(python, folder)
+        install(folder)
         link_tools(folder)
         with mock.patch.dict(os.environ, TML_INSTALLED=name, PYTHONPATH=name):
             yield

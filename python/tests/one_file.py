@@ -1,6 +1,7 @@
 """Runs one file of tests."""
 
 import io
+import resource
 import unittest
 from dataclasses import dataclass
 from pathlib import Path
@@ -11,13 +12,22 @@ from corpus import SOURCES
 
 
 @dataclass(frozen=True)
+class Skipped:
+    """A test, or a class of tests, that was skipped, and the reason."""
+
+    test: str
+    reason: str
+
+
+@dataclass(frozen=True)
 class Ran:
-    """What came of a file of tests: what was printed, how many passed, which failed, and what was skipped, with the reason."""
+    """What came of a file of tests: what it printed, how many tests passed, which failed, which were skipped, and its processor time."""
 
     printed: str
     passed: int
     failed: frozenset[str]
-    skipped: tuple[str, ...]
+    skipped: tuple[Skipped, ...]
+    seconds: float = 0.0
 
 
 class Counted(unittest.TextTestResult):
@@ -31,7 +41,7 @@ class Counted(unittest.TextTestResult):
 
 
 def run(name: str) -> Ran:
-    """Runs the file of tests with this name, over the packages that are to be tested."""
+    """Runs the file of tests with this name, over the packages that are to be tested, in a process that runs nothing else."""
     for package in (tml, tml_corpus):
         if not Path(str(package.__file__)).is_relative_to(SOURCES):
             raise ImportError(f"{package.__file__} is imported, and the packages to be tested lie in {SOURCES}")
@@ -40,4 +50,12 @@ def run(name: str) -> Ran:
     assert isinstance(result, Counted)
     # A subtest that failed counts as its test.
     failed = {getattr(test, "test_case", test).id() for test, _ in result.failures + result.errors}
-    return Ran(printed.getvalue(), result.passed, frozenset(failed), tuple(f"{test}: {reason}" for test, reason in result.skipped))
+    failed |= {test.id() for test in result.unexpectedSuccesses}
+    skipped = tuple(Skipped(str(test), reason) for test, reason in result.skipped)
+    return Ran(printed.getvalue(), result.passed, frozenset(failed), skipped, processor_time())
+
+
+def processor_time() -> float:
+    """How many seconds of processor time this process took, with all children that have ended."""
+    used = [resource.getrusage(who) for who in (resource.RUSAGE_SELF, resource.RUSAGE_CHILDREN)]
+    return sum(one.ru_utime + one.ru_stime for one in used)

@@ -11,7 +11,7 @@
 (defun waiting (ready)
   "Waits until READY answers something, and answers that."
   (let ((turns 0) found)
-    (while (and (not (setq found (funcall ready))) (< turns 200))
+    (while (and (not (setq found (funcall ready))) (< turns 3000))
       (accept-process-output nil 0.1)
       (setq turns (1+ turns)))
     found))
@@ -22,7 +22,8 @@
   (seq-some (lambda (one) (and (string-match-p word (flymake-diagnostic-text one)) one)) (flymake-diagnostics)))
 
 (add-to-list 'eglot-server-programs (cons 'nxml-mode (split-string (getenv "TML_SERVE") " ")))
-(setq eglot-sync-connect 20)
+(setq eglot-sync-connect 300
+      jsonrpc-default-request-timeout 300)
 (find-file (getenv "TML_DOCUMENT"))
 (nxml-mode)
 (apply #'eglot (eglot--guess-contact))
@@ -40,5 +41,5 @@
 (eglot-rename "e7")
 (message "renamed: %s" (buffer-substring (line-beginning-position) (line-end-position)))
 (set-buffer-modified-p nil)
-(eglot-shutdown (eglot-current-server))
+(eglot-shutdown (eglot-current-server) nil 300)
 (message "stopped")

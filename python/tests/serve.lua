@@ -1,7 +1,7 @@
 -- What Neovim makes of the set-up of docs/EDITORS.md, over two documents: a line for each step.
 
 local function wait(ready)
-  return vim.wait(60000, ready, 20)
+  return vim.wait(300000, ready, 20)
 end
 
 local function worst()
@@ -21,7 +21,7 @@ vim.cmd("buffer " .. first)
 
 local function ask(method, more)
   local asked = vim.tbl_extend("force", vim.lsp.util.make_position_params(), more or {})
-  return vim.lsp.buf_request_sync(0, method, asked, 60000)[id]
+  return vim.lsp.buf_request_sync(0, method, asked, 300000)[id]
 end
 
 local function apply(edit)

@@ -19,6 +19,7 @@ from collections.abc import Callable
 
 from attacks import COMMANDS, AttackTest
 from corpus import CLASH, document
+from processes import PATIENCE
 
 
 def small_files(size: int) -> Callable[[], None]:
@@ -44,7 +45,7 @@ class Files(AttackTest):
         for command, folder, size, said in rows:
             with self.subTest(command):
                 child = self.begin(command, preexec_fn=small_files(size))
-                out, error = child.communicate(timeout=120)
+                out, error = child.communicate(timeout=PATIENCE)
                 self.assertEqual((child.returncode, self.left(folder)), (2, []))
                 self.assertIn(said, (out + error).decode())
 

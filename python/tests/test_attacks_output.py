@@ -9,6 +9,7 @@ from typing import IO
 
 from attacks import COMMANDS, OTHER_COMMANDS, AttackTest
 from corpus import TOP
+from processes import PATIENCE
 
 OUTPUTS = {"full": "no space left on device", "gone": None, "closed": "standard output is closed"}
 """What standard output may be, and what is said of it: nothing where its reader has ended."""
@@ -32,7 +33,7 @@ class Outputs(AttackTest):
             os.close(reading)
             child = self.begin(command, stdin=given, stdout=writing)
             os.close(writing)
-        _, error = child.communicate(timeout=120)
+        _, error = child.communicate(timeout=PATIENCE)
         return child.returncode, error.decode()
 
     def test_output_that_fails_is_no_judgement(self) -> None:

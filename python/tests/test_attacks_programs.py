@@ -5,13 +5,13 @@ digits in three replies of a program about one document of two.
 """
 
 import os
+import shutil
 import signal
-import time
 import unittest
 
 from attacks import COMMANDS, AttackTest
 from corpus import CLASH, TML, document
-from processes import is_running, until
+from processes import PATIENCE, interrupt, is_running, until
 from tml.process import Process
 
 PROGRAMS = (
@@ -86,30 +86,29 @@ class Programs(AttackTest):
                 self.assertIn("and a text that does not go with it", ended.out)
 
     def test_a_program_that_hangs_is_ended_with_the_second_interruption(self) -> None:
-        fake = self.fake(f'echo $$ >> "{self.path("asked")}"\ncat >/dev/null; sleep 300')
+        # A folder is there at once with all of its name, as a file with its content is not.
+        fake = self.fake(f'cat >/dev/null\nmkdir -p "{self.path("asked")}/$$"\nsleep 300')
         for command in (COMMANDS[0], COMMANDS[4], COMMANDS[6], COMMANDS[7]):
             with self.subTest(command):
-                if os.path.exists(self.path("asked")):
-                    os.unlink(self.path("asked"))
+                shutil.rmtree(self.path("asked"), ignore_errors=True)
                 child = self.begin(command, tml=fake)
-                until(lambda: os.path.exists(self.path("asked")), 30)
-                child.send_signal(signal.SIGINT)
-                time.sleep(0.3)
+                until(self.asked)
+                interrupt(child)
                 self.assertIsNone(child.poll())
                 child.send_signal(signal.SIGINT)
-                begun = time.monotonic()
-                child.communicate(timeout=60)
-                self.assertLess(time.monotonic() - begun, 3)
+                child.communicate(timeout=PATIENCE)
                 self.assertEqual(child.returncode, -signal.SIGINT)
-                asked = [int(number) for number in self.read_text("asked").split()]
-                until(lambda: not any(map(is_running, asked)), 30)
+                until(lambda: not any(map(is_running, self.asked())))
 
     def test_tml_edit_ends_with_the_first_interruption(self) -> None:
-        child = self.begin(COMMANDS[8], tml=self.fake(f'echo $$ > "{self.path("asked")}"\nsleep 300'))
-        until(lambda: os.path.exists(self.path("asked")), 30)
-        time.sleep(0.2)
+        child = self.begin(COMMANDS[8], tml=self.fake(f'mkdir -p "{self.path("asked")}/$$"\nsleep 300'))
+        until(self.asked)
         child.send_signal(signal.SIGINT)
-        self.assertEqual((child.communicate(timeout=60), child.returncode), ((b"", b""), 130))
+        self.assertEqual((child.communicate(timeout=PATIENCE), child.returncode), ((b"", b""), 130))
+
+    def asked(self) -> list[int]:
+        """The programs that have been asked, by the folders with their numbers."""
+        return [int(number) for number in os.listdir(self.path("asked"))] if os.path.exists(self.path("asked")) else []
 
 
 if __name__ == "__main__":

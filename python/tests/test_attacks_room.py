@@ -5,7 +5,6 @@ Five launchers, each with three limits of open files and five of memory, and ten
 
 import re
 import resource
-import time
 import unittest
 from functools import partial
 from pathlib import Path
@@ -58,13 +57,11 @@ class LittleRoom(AttackTest):
         # Where the room for a worker ends depends on the machine: all sizes around it are tried.
         for kibibytes in range(18_000, 26_000, 800):
             with self.subTest(kibibytes):
-                begun = time.monotonic()
                 ended = self.ended(
                     "tml-corpus check --jobs 2 --tml TML good.xml clash.xml",
                     preexec_fn=partial(resource.setrlimit, resource.RLIMIT_AS, (kibibytes << 10,) * 2),
                 )
                 self.assertNotEqual(ended.status, 1, ended)
-                self.assertLess(time.monotonic() - begun, 90)
 
 
 if __name__ == "__main__":

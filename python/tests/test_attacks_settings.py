@@ -1,7 +1,7 @@
 """Settings of strangers.
 
-Seven files that cost much or end otherwise than by a line, a million jobs over 300 files, and eight cases of who owns a file and where
-it lies.
+Seven files that cost much or end otherwise than by a line, a million jobs over 300 files, and ten cases of who owns a file and where it
+lies.
 """
 
 import contextlib
@@ -17,7 +17,7 @@ from unittest import mock
 import tomllib  # noqa: F401
 
 from attacks import AttackTest
-from corpus import TML, document
+from corpus import TML, document, needs_root
 from tml_corpus.asking.pool import Interruption, processors
 from tml_corpus.command_line import main as command_line
 from tml_corpus.command_line.parser import parser
@@ -41,8 +41,6 @@ def become_stranger() -> None:
     os.setgid(STRANGER)
     os.setuid(STRANGER)
 
-
-needs_root = unittest.skipUnless(os.geteuid() == 0, "only root can make files of other users, and work as one of them")
 
 SETTINGS = {
     "names within names": "a" + ".a" * 8000 + " = 1",
@@ -76,6 +74,14 @@ class Settings(AttackTest):
             with Interruption() as stop, command_line.prepared(read, command_line.settings_of(read), stop) as made:
                 self.assertEqual(command_line.run_command(read, made), 0)
         self.assertEqual(fork.call_count, 4 * processors())
+
+    def test_none_above_the_home_folder_is_read(self) -> None:
+        self.write("tml-corpus.toml", "x = 1")
+        self.write("home/c/d.xml", "")
+        with mock.patch.dict(os.environ, HOME=self.path("home")):
+            self.assertEqual(settings_for([self.path("home/c")], None).settings.path, "")
+            self.write("home/tml-corpus.toml", "jobs = 1")
+            self.assertEqual(settings_for([self.path("home/c")], None).settings.jobs, 1)
 
     @needs_root
     def test_those_of_a_stranger_above_are_not_read(self) -> None:

@@ -3,12 +3,11 @@
 import json
 import os
 import re
-import signal
-import time
 import unittest
 import xml.etree.ElementTree as ElementTree
 
-from corpus import EVENT, TML, TOO_LONG, CorpusTest, document, match_in, needed, text_at
+from corpus import EVENT, HELD, TML, TOO_LONG, CorpusTest, document, match_in, needed, text_at
+from processes import PATIENCE, interrupt
 from tml.statuses import DOCUMENT_LIMIT
 
 GOOD = document(EVENT)
@@ -130,13 +129,12 @@ class Statuses(CorpusTest):
     def test_interrupted(self) -> None:
         for number in range(400):
             self.write(f"{number:03}.xml", BAD)
-        fake = self.fake(f'echo >> "{self.path("asked")}"\nsleep 0.05\nexec {TML} "$@"')
-        child = self.start("check", "--jobs", "2", ".", tml=fake)
-        while child.poll() is None and not (os.path.exists(self.path("asked")) and os.path.getsize(self.path("asked")) > 20):
-            time.sleep(0.02)
-        child.send_signal(signal.SIGINT)
-        out, _ = child.communicate(timeout=60)
-        lines = out.decode().splitlines()
+        child = self.start("check", "--jobs", "2", ".", tml=self.fake(f'{HELD}\nexec {TML} "$@"'))
+        first = os.read(needed(child.stdout).fileno(), 1)
+        interrupt(child)
+        self.write("go", "")
+        out, _ = child.communicate(timeout=PATIENCE)
+        lines = (first + out).decode().splitlines()
         self.assertEqual(child.returncode, 130)
         printed = match_in(r"^interrupted: (\d+) of 400 files were looked at$", lines[-1])
         named = [line.split(":")[0] for line in lines if "error" in line]

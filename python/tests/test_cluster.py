@@ -1,20 +1,17 @@
 """`--cluster`: the same report as on one machine, with a Dask scheduler and workers that the test starts and ends.
 
-Without the module `distributed` (of Debian: python3-distributed), here or at /usr/bin/python3, most of it is skipped.
+Without the module `distributed` (of Debian: python3-distributed) most of it is skipped.
 """
 
 import glob
 import os
 import signal
 import socket
-import subprocess
-import sys
-import time
 import unittest
 
-from corpus import EVENT, INSTANCE, TML, TOO_LONG, TOP, CorpusTest, document, needed, text_at
-from daemons import PYTHON, ClusterTest, needs_distributed
-from processes import until
+from corpus import EVENT, HELD, INSTANCE, TML, TOO_LONG, CorpusTest, document, needed, text_at
+from daemons import ClusterTest, needs_distributed
+from processes import PATIENCE, WITH_PACKAGES, until
 
 Streams = tuple[int, bytes, bytes]
 """The status and both streams of a program."""
@@ -22,13 +19,10 @@ Streams = tuple[int, bytes, bytes]
 
 class NoCluster(CorpusTest):
     def test_no_module(self) -> None:
-        self.write("distributed.py", "raise ImportError\n")
-        words = [sys.executable, os.path.join(TOP, "tools", "tml-corpus"), "check", "--tml", TML, "--cluster", "tcp://127.0.0.1:1", "."]
-        done = subprocess.run(
-            words, cwd=self.folder, env={**os.environ, "PYTHONPATH": self.folder}, capture_output=True, timeout=60, check=False
-        )
-        self.assertEqual((done.returncode, done.stdout), (2, b""))
-        self.assertIn(b"--cluster needs the module distributed", done.stderr)
+        child = self.start("check", "--cluster", "tcp://127.0.0.1:1", ".")
+        out, error = child.communicate(timeout=PATIENCE)
+        self.assertEqual((child.returncode, out), (2, b""))
+        self.assertIn(b"--cluster needs the module distributed", error)
 
     @needs_distributed
     def test_nobody_listens(self) -> None:
@@ -37,13 +31,11 @@ class NoCluster(CorpusTest):
             rows = [f"tcp://127.0.0.1:{taken.getsockname()[1]}", "nothing", "foo://127.0.0.1:1"]
             for address in rows:
                 with self.subTest(address):
-                    begun = time.monotonic()
-                    child = self.start("check", "--cluster", address, ".", python=needed(PYTHON))
-                    out, err = child.communicate(timeout=60)
+                    child = self.start("check", "--cluster", address, ".", python=WITH_PACKAGES)
+                    out, err = child.communicate(timeout=PATIENCE)
                     self.assertEqual((child.returncode, out), (2, b""))
                     self.assertTrue(err.decode().startswith(f"tml-corpus: no scheduler of a Dask cluster answers at {address}: "), err)
                     self.assertEqual(err.count(b"\n"), 1)
-                    self.assertLess(time.monotonic() - begun, 20)
 
 
 class OnACluster(ClusterTest):
@@ -66,8 +58,8 @@ class OnACluster(ClusterTest):
 
     def bytes_of(self, *words: str, tml: str = TML) -> Streams:
         """The status and the bytes of both streams."""
-        child = self.start(*words, tml=tml, python=needed(PYTHON))
-        out, err = child.communicate(timeout=120)
+        child = self.start(*words, tml=tml, python=WITH_PACKAGES)
+        out, err = child.communicate(timeout=PATIENCE)
         return child.returncode, out, err
 
     def both(self, *words: str, tml: str = TML) -> tuple[Streams, Streams]:
@@ -111,17 +103,19 @@ class OnACluster(ClusterTest):
     def test_a_worker_killed_in_the_middle(self) -> None:
         self.files(250)
         one = self.bytes_of("check", "d")
-        asked = self.path("asked")
-        # Each question leaves the number of the worker that asked it.
-        program = self.script(f'echo $PPID >> "{asked}"\nsleep 0.01')
         [victim] = self.daemons.workers(1, "--no-nanny")
-        child = self.start("check", "--cluster", self.address, "d", tml=program, python=needed(PYTHON))
-        until(lambda: os.path.exists(asked) and text_at(asked).split().count(str(victim.pid)) > 20, 60)
+        # After twenty questions of this worker the next one waits for its end.
+        program = self.script(
+            f'if [ $PPID = {victim.pid} ]; then\n  cd "{self.folder}"\n  echo >> asked\n'
+            '  while [ "$(wc -l < asked)" -gt 20 ] && kill -0 $PPID; do touch waits; sleep 0.05; done\nfi'
+        )
+        child = self.start("check", "--cluster", self.address, "d", tml=program, python=WITH_PACKAGES)
+        until(lambda: os.path.exists(self.path("waits")))
         victim.kill()
         self.assertIsNone(child.poll())
-        out, err = child.communicate(timeout=120)
+        out, err = child.communicate(timeout=PATIENCE)
         self.assertEqual((child.returncode, out, err), one)
-        self.assertEqual(victim.wait(10), -signal.SIGKILL)
+        self.assertEqual(victim.wait(PATIENCE), -signal.SIGKILL)
 
     def test_a_file_that_ends_its_worker(self) -> None:
         for number in range(40):
@@ -139,24 +133,21 @@ class OnACluster(ClusterTest):
     def test_interrupted(self) -> None:
         for number in range(300):
             self.write(f"{number:03}.xml", document("<EVENT/>"))
-        asked = self.path("asked")
-        program = self.script(f'echo >> "{asked}"\nsleep 0.03')
-        child = self.start("check", "--cluster", self.address, ".", tml=program, python=needed(PYTHON))
-        until(lambda: os.path.exists(asked) and os.path.getsize(asked) > 150, 60)
+        child = self.start("check", "--cluster", self.address, ".", tml=self.script(HELD), python=WITH_PACKAGES)
+        first = os.read(needed(child.stdout).fileno(), 1)
         child.send_signal(signal.SIGINT)
-        out, err = child.communicate(timeout=30)
-        lines = out.decode().splitlines()
+        out, err = child.communicate(timeout=PATIENCE)
+        lines = (first + out).decode().splitlines()
         self.assertEqual((child.returncode, err), (130, b""))
         named = [line.split(":")[0] for line in lines if "error" in line]
         self.assertEqual(named, [f"./{number:03}.xml" for number in range(len(named))])
         self.assertEqual(lines[-1], f"interrupted: {len(named)} of 300 files were looked at")
         self.assertTrue(0 < len(named) < 300, len(named))
-        # The tasks are cancelled: what a worker had begun it ends, and no more is asked. Of all files it would be 600 questions.
-        size = 0
-        while size != os.path.getsize(asked):
-            size = os.path.getsize(asked)
-            time.sleep(1)
-        self.assertLess(size, 400)
+        # The tasks are cancelled: a worker ends what it had begun, and no more is asked. All files together would be 600 questions, and
+        # later tasks are done after them.
+        self.write("go", "")
+        self.assertEqual(self.bytes_of("check", "--cluster", self.address, "000.xml")[0], 1)
+        self.assertLess(len(self.read_bytes("asked")), 500)
 
 
 if __name__ == "__main__":

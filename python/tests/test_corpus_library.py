@@ -9,17 +9,16 @@ import shutil
 import signal
 import subprocess
 import tempfile
-import time
 import unittest
 import zipfile
-from collections.abc import Mapping
+from collections.abc import Mapping, Sequence
 from pathlib import Path
 
 from corpus import CLASH, EVENT, INSTANCE, SOURCES, TESTS, TML, TOO_LONG, TOOLS, TOP, CorpusTest, document, match_in
-from daemons import PYTHON, ClusterTest
+from daemons import ClusterTest
 from forked import run_forked
 from installing import INSTALLED
-from processes import BARE, is_running, until, with_own_bytecode
+from processes import BARE, PATIENCE, WITH_PACKAGES, children_of, interrupt, is_running, until, with_own_bytecode
 from tml import finding
 from tml_corpus.asking.archive import Sent, archive
 from tml_corpus.asking.libraries import AtPath, Loadable, library_of
@@ -43,20 +42,20 @@ needs_cc = unittest.skipUnless(shutil.which("cc"), "no program cc")
 
 class LibraryTest(CorpusTest):
     def run_bytes(
-        self, command: str, *words: str, tml: str | None = TML, tools: str = TOOLS, python: str | None = None, **variables: str
+        self, command: str, *words: str, tml: str | None = TML, tools: str = TOOLS, python: Sequence[str] = BARE, **variables: str
     ) -> Streams:
         """The status and the bytes of both streams; no program is named where that is None."""
         chosen = [] if tml is None else ["--tml", os.path.abspath(tml)]
-        inherited = with_own_bytecode() if python else os.environ
+        inherited = os.environ if python == BARE else with_own_bytecode()
         others = {name: value for name, value in inherited.items() if name != "TML_LIBRARY"}
         environment = {**others, "PYTHONIOENCODING": "utf-8", "PYTHONDONTWRITEBYTECODE": "1", **variables}
         program, given = os.path.join(tools, "tml-corpus"), [command, *chosen, *words]
-        if python is None and tools == TOOLS:
+        if python == BARE and tools == TOOLS:
             ended = run_forked(program, *given, folder=self.folder, environment=environment)
             return ended.status, ended.out, ended.error
-        run = [*((python,) if python else BARE), program, *given]
+        run = [*python, program, *given]
         done = subprocess.run(
-            run, cwd=self.folder, stdin=subprocess.DEVNULL, capture_output=True, check=False, timeout=120, env=environment
+            run, cwd=self.folder, stdin=subprocess.DEVNULL, capture_output=True, check=False, timeout=PATIENCE, env=environment
         )
         return done.returncode, done.stdout, done.stderr
 
@@ -163,7 +162,7 @@ class SameAnswers(LibraryTest):
         for option in (["--no-library"], ["--library", LIBRARY]):
             with open(self.path("a.xml"), "rb") as given:
                 words = [*COMPANION, "check", "--clashes", "--tml", os.path.abspath(TML), *option, "--stdin-name", "b.xml", "-"]
-                done = subprocess.run(words, cwd=self.folder, stdin=given, capture_output=True, check=False, timeout=60)
+                done = subprocess.run(words, cwd=self.folder, stdin=given, capture_output=True, check=False, timeout=PATIENCE)
             self.assertEqual(done.returncode, 1)
             self.assertTrue(done.stdout.startswith(b"b.xml:2:"), done.stdout)
 
@@ -227,7 +226,7 @@ class WhichLibrary(LibraryTest):
         variables = {**os.environ, "PATH": self.path("bin") + os.pathsep + os.environ["PATH"], "TML_LIBRARY": self.stand_in()}
         for chosen, status in (("", 2), ("--tml tml", 0)):
             words = [*BARE, os.path.join(TOOLS, "redundant-links"), *chosen.split(), "good.xml"]
-            done = subprocess.run(words, cwd=self.folder, env=variables, capture_output=True, check=False, timeout=60)
+            done = subprocess.run(words, cwd=self.folder, env=variables, capture_output=True, check=False, timeout=PATIENCE)
             self.assertEqual((done.returncode, done.stderr), (status, b""))
             self.assertEqual(b"a text that does not go with it" in done.stdout, status == 2)
 
@@ -270,58 +269,52 @@ class WrongLibrary(LibraryTest):
                     counts = r"(?m)^1000 files: (995 accepted|0 with a clash, 995 without), 0 with a fault, 5 not judged$"
                     self.assertRegex(out.decode(), counts)
 
-    def started(self, *words: str) -> tuple[subprocess.Popen[bytes], Path]:
-        """A run of `check` that is under way, and the file in which each call leaves the number of its process."""
-        asked = self.path("asked")
+    def started(self, *words: str, processes: int = 1) -> subprocess.Popen[bytes]:
+        """A run of `check` that is under way. Its first calls are answered once so many processes have called."""
         child = subprocess.Popen(
             [*COMPANION, "check", "--tml", os.path.abspath(TML), "--library", self.library, *words, "d"],
             cwd=self.folder,
-            env={**os.environ, "STAND_IN": asked},
+            env={**os.environ, "STAND_IN": self.path("asked"), "STAND_IN_PROCESSES": str(processes), "STAND_IN_HANGS": self.path("hangs")},
             stdin=subprocess.DEVNULL,
             stdout=subprocess.PIPE,
             stderr=subprocess.PIPE,
         )
         self.addCleanup(child.wait)
         self.addCleanup(child.kill)
-        return child, Path(asked)
-
-    def callers(self, asked: Path) -> list[int]:
-        """The processes that called, once no more is called."""
-        size = -1
-        while size != (size := asked.stat().st_size if asked.exists() else -1) or size < 0:
-            time.sleep(0.7)
-        return [int(number) for number in asked.read_text(encoding="utf-8").split()]
+        return child
 
     def test_the_program_never_calls_it(self) -> None:
         self.marked(300, {})
-        child, asked = self.started("--jobs", "3")
-        child.communicate(timeout=60)
-        callers = self.callers(asked)
+        child = self.started("--jobs", "3", processes=3)
+        child.communicate(timeout=PATIENCE)
+        callers = [int(number) for number in self.read_text("asked").split()]
         self.assertEqual((child.returncode, len(callers), len(set(callers))), (0, 300, 3))
         self.assertNotIn(child.pid, callers)
 
+    def hanging(self, count: int, place: int) -> tuple[subprocess.Popen[bytes], set[int]]:
+        """A run that has come to a file that hangs, and its two workers."""
+        self.marked(count, {place: "hang"})
+        child = self.started("--jobs", "2")
+        until(lambda: os.path.exists(self.path("hangs")))
+        return child, children_of(child.pid)
+
     def test_one_that_hangs_is_ended_with_the_second_interruption(self) -> None:
-        self.marked(30, {7: "hang"})
-        child, asked = self.started("--jobs", "2")
-        workers = set(self.callers(asked))
-        child.send_signal(signal.SIGINT)
-        time.sleep(0.3)
+        child, workers = self.hanging(30, 7)
+        interrupt(child)
         self.assertIsNone(child.poll())
         child.send_signal(signal.SIGINT)
-        self.assertEqual((child.communicate(timeout=10), child.returncode), ((b"", b""), -signal.SIGINT))
-        until(lambda: not any(map(is_running, workers)), 10)
+        self.assertEqual((child.communicate(timeout=PATIENCE), child.returncode), ((b"", b""), -signal.SIGINT))
+        self.assertEqual(len(workers), 2)
+        until(lambda: not any(map(is_running, workers)))
 
     def test_interrupted(self) -> None:
-        self.marked(40, {12: "hang"})
-        child, asked = self.started("--jobs", "2")
-        workers = set(self.callers(asked))
-        child.send_signal(signal.SIGINT)
-        time.sleep(0.7)
+        child, workers = self.hanging(40, 12)
+        interrupt(child)
         self.assertIsNone(child.poll())
         # Where the one that hangs is ended from outside, the results before it are reported.
-        for worker in filter(is_running, workers):
+        for worker in workers:
             os.kill(worker, signal.SIGKILL)
-        out, error = child.communicate(timeout=20)
+        out, error = child.communicate(timeout=PATIENCE)
         self.assertEqual((child.returncode, error), (130, b""))
         printed = match_in(r"^interrupted: (\d+) of 40 files were looked at$", out.decode().splitlines()[-1])
         self.assertLessEqual(int(printed[1]), 12)
@@ -400,8 +393,8 @@ class OnACluster(ClusterTest, LibraryTest):
         rows = ["check --lint --more 1 d", "check --clashes --format json d", "clashes --repair d", "agree --links d e"]
         for row in rows:
             with self.subTest(row):
-                one = self.run_bytes(*row.split(), "--no-library", python=PYTHON)
-                self.assertEqual(self.run_bytes(*row.split(), "--library", LIBRARY, "--cluster", self.address, python=PYTHON), one)
+                one = self.run_bytes(*row.split(), "--no-library", python=WITH_PACKAGES)
+                self.assertEqual(self.run_bytes(*row.split(), "--library", LIBRARY, "--cluster", self.address, python=WITH_PACKAGES), one)
 
     @needs_cc
     def test_it_is_the_library_that_answers(self) -> None:
@@ -410,14 +403,14 @@ class OnACluster(ClusterTest, LibraryTest):
         rows = [(f"--library {self.stand_in()}", 0), ("", 1), ("--no-library", 1), ("--library wrong.so", 1), ("--library libgone.so.7", 1)]
         for words, status in rows:
             with self.subTest(words):
-                found = self.run_bytes("check", *words.split(), "--cluster", self.address, "bad.xml", python=PYTHON)
+                found = self.run_bytes("check", *words.split(), "--cluster", self.address, "bad.xml", python=WITH_PACKAGES)
                 self.assertEqual((found[0], found[2]), (status, b""), found)
         # Where nothing is said it is the one that was built.
-        found = self.run_bytes("check", "--cluster", self.address, "bad.xml", tml=None, tools=self.tools(), python=PYTHON)
+        found = self.run_bytes("check", "--cluster", self.address, "bad.xml", tml=None, tools=self.tools(), python=WITH_PACKAGES)
         self.assertEqual((found[0], found[2]), (0, b""), found)
         # A program has to be there all the same.
         named = ["--library", self.stand_in(), "--cluster", self.address]
-        status, _, error = self.run_bytes("check", *named, "bad.xml", tml="/no/such/tml", python=PYTHON)
+        status, _, error = self.run_bytes("check", *named, "bad.xml", tml="/no/such/tml", python=WITH_PACKAGES)
         self.assertEqual(status, 2)
         self.assertIn(b"no program /no/such/tml at 2 of 2 workers", error)
 
@@ -425,7 +418,7 @@ class OnACluster(ClusterTest, LibraryTest):
     def test_a_file_that_ends_its_worker(self) -> None:
         for number in range(40):
             self.write(f"d/{number:02}.xml", "<TimeML/>\n" + "<!--crash-->\n" * (number == 20))
-        status, out, _ = self.run_bytes("check", "--library", self.stand_in(), "--cluster", self.address, "d", python=PYTHON)
+        status, out, _ = self.run_bytes("check", "--library", self.stand_in(), "--cluster", self.address, "d", python=WITH_PACKAGES)
         lines = out.decode().splitlines()
         self.assertEqual(status, 2)
         self.assertTrue(lines[0].startswith("d/20.xml: not judged: the process that examined it"), lines)

@@ -14,6 +14,7 @@ from collections.abc import Callable, Iterable
 from dataclasses import replace
 from pathlib import Path
 from random import Random
+from unittest import mock
 
 from corpus import TML, TOOLS, needs_matrix, needs_score, needs_seconds
 from differential import agreeing, commands, reals  # noqa: F401
@@ -42,6 +43,7 @@ from differential.reducing import reduced
 from differential.rows import Rows, answers_of, is_for_rows, row_of
 from differential.trees import tree_of
 from forked import run_forked
+from processes import PATIENCE
 from reference import Outcome, expected
 from tml.running import CannotRun
 from tml.statuses import FAULT_NAMES, TmlStatus
@@ -450,12 +452,14 @@ class Runs(unittest.TestCase):
         held = tempfile.TemporaryDirectory()
         self.addCleanup(held.cleanup)
         self.folder = Path(held.name)
+        # Cases are made as small as they can be made, however long that takes.
+        self.enterContext(mock.patch.object(commands, "REDUCING_SECONDS", PATIENCE))
 
     def differential(self, *words: str, tml: str = TML) -> tuple[int, str]:
         """Runs the tool over a program, and gives its status and what it printed. A library is asked where the words name one."""
         environment = {**os.environ, "TML": os.path.abspath(tml), "TML_LIBRARY": "", "PYTHONDONTWRITEBYTECODE": "1"}
         words = ("--keep", str(self.folder / "kept"), *words)
-        ended = run_forked(DIFFERENTIAL, *words, folder=str(self.folder), environment=environment, patience=300)
+        ended = run_forked(DIFFERENTIAL, *words, folder=str(self.folder), environment=environment, patience=2 * PATIENCE)
         return ended.status, (ended.out + ended.error).decode()
 
     def lying(self, body: str) -> str:
@@ -465,10 +469,10 @@ class Runs(unittest.TestCase):
         path.chmod(stat.S_IRWXU)
         return str(path)
 
-    def test_two_seconds_without_a_difference(self) -> None:
-        status, said = self.differential("2", "7")
+    def test_some_cases_without_a_difference(self) -> None:
+        status, said = self.differential("--count", "300", "2", "7")
         self.assertEqual(status, 0, said)
-        self.assertRegex(said, r"(?m)^\d\d+ cases, 0 differences, seed 7,")
+        self.assertRegex(said, r"(?m)^3\d\d cases, 0 differences, seed 7,")
 
     def test_evidence_without_a_difference(self) -> None:
         status, said = self.differential("--evidence", "--count", "100", "2", "8")
@@ -547,10 +551,10 @@ class Runs(unittest.TestCase):
             self.assertIn(f"difference ({subject})", said)
 
     @unittest.skipUnless(library_path(), "no library")
-    def test_two_seconds_of_a_library_without_a_difference(self) -> None:
-        status, said = self.differential("--library", library_path() or "", "2", "7")
+    def test_some_cases_of_a_library_without_a_difference(self) -> None:
+        status, said = self.differential("--library", library_path() or "", "--count", "300", "2", "7")
         self.assertEqual(status, 0, said)
-        self.assertRegex(said, r"(?m)^\d\d+ cases, 0 differences, seed 7, \d+ cases a second, \d\d+ of them by the library too$")
+        self.assertRegex(said, r"(?m)^3\d\d cases, 0 differences, seed 7, \d+ cases a second, \d\d+ of them by the library too$")
 
     @unittest.skipUnless(shutil.which("cc"), "no cc")
     def test_a_library_that_lies_is_found(self) -> None:

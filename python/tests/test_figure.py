@@ -2,19 +2,20 @@
 
 from __future__ import annotations
 
+import importlib.util
 import itertools
 import os
 import re
 import shutil
 import subprocess
-import sys
 import unittest
 import xml.etree.ElementTree as ElementTree
 from unittest import mock
 
-from browser import CHROMIUM
-from corpus import COMPANION, TML, TOP, CorpusTest, document, needs_matrix, needs_score
+from browser import needs_browser
+from corpus import COMPANION, TML, TOP, CorpusTest, document, match_in, needs_matrix, needs_score, text_at
 from looking import contrast, luminance
+from processes import WITH_PACKAGES, with_own_bytecode
 from test_timeline_page import event, link, mended
 from tml_corpus.asking.program import CannotRun
 from tml_corpus.figure.draw import width_of
@@ -45,21 +46,15 @@ def has_tex() -> bool:
     return len(found.splitlines()) == len(PACKAGES)
 
 
-def python_with_library() -> str:
-    """A Python that has the library cairosvg: the one that runs, or that of the system."""
-    program = "import cairosvg, sys; sys.exit(sys.version_info < (3, 11))"
-    for python in (sys.executable, "/usr/bin/python3"):
-        if os.access(python, os.X_OK) and subprocess.run([python, "-c", program], capture_output=True, check=False).returncode == 0:
-            return python
-    raise unittest.SkipTest("no library cairosvg")
+needs_library = unittest.skipUnless(importlib.util.find_spec("cairosvg"), "no library cairosvg")
+needs_poppler = unittest.skipUnless(all(map(shutil.which, ("pdfinfo", "pdftotext", "pdftoppm"))), "no programs of poppler-utils")
 
 
-def tool(name: str) -> str:
-    """A program that reads PDF."""
-    found = shutil.which(name)
-    if found is None:
-        raise unittest.SkipTest(f"no program {name}")
-    return found
+def pages(path: str) -> tuple[str, float]:
+    """The text of a PDF, with a form feed after each page, and the width of its first page in points."""
+    text = subprocess.run(["pdftotext", path, "-"], capture_output=True, text=True, check=True).stdout
+    said = subprocess.run(["pdfinfo", path], capture_output=True, text=True, check=True).stdout
+    return text, float(match_in(r"Page size: +([\d.]+) x", said)[1])
 
 
 @needs_matrix
@@ -207,7 +202,8 @@ class Samples(FigureTest):
 
     def test_they_are_what_is_drawn(self) -> None:
         for name, picture in (("ferry.xml", "ferry-bare.svg"), ("port.xml", "port-clash.svg")):
-            self.run_it("timeline", "--bare", os.path.join(TOP, "samples", name), "-o", "made.svg")
+            self.write(name, text_at("samples", name))
+            self.run_it("timeline", "--bare", name, "-o", "made.svg")
             with open(self.path("made.svg"), "rb") as made, open(os.path.join(TOP, "samples", picture), "rb") as kept:
                 self.assertEqual(made.read(), kept.read(), name)
 
@@ -229,7 +225,7 @@ class Forms(FigureTest):
         self.assertEqual(escaped(r"\a{"), r"\textbackslash{}a\{")
         self.assertEqual(escaped("50% & x_1 -- #"), r"50\% \& x\_1 {-}{-} \#")
 
-    @unittest.skipUnless(has_tex(), "no pdflatex, or not the packages that a picture needs")
+    @unittest.skipUnless(has_tex(), "no TeX with what a picture needs")
     def test_tex_can_be_compiled(self) -> None:
         for name, content, status in (("a", mended(), 0), ("b", mended().replace('relType="AFTER"', 'relType="BEFORE"'), 1)):
             self.made(content, f"{name}.tex", status=status)
@@ -237,35 +233,34 @@ class Forms(FigureTest):
             done = subprocess.run(words, cwd=self.folder, stdin=subprocess.DEVNULL, check=False)
             self.assertEqual(done.returncode, 0)
 
-    @unittest.skipUnless(CHROMIUM and shutil.which("pdftotext"), "no program chromium, or no pdftotext")
+    @needs_browser
+    @needs_poppler
     def test_pdf(self) -> None:
         self.made(mended(), "d.pdf")
-        said = subprocess.run(["pdftotext", self.path("d.pdf"), "-"], capture_output=True, text=True, check=True).stdout
-        self.assertIn("waited", said)
-        self.assertEqual(said.count("\f"), 1)
-        with open(self.path("d.pdf"), "rb") as file:
-            box = re.search(rb"/MediaBox\s*\[0 0 ([\d.]+) ([\d.]+)\]", file.read())
-        assert box is not None
-        self.assertAlmostEqual(float(box[1]), 84 * 72 / 25.4, delta=1)
+        text, width = pages(self.path("d.pdf"))
+        self.assertIn("waited", text)
+        self.assertEqual(text.count("\f"), 1)
+        self.assertAlmostEqual(width, 84 * 72 / 25.4, delta=1)
 
+    @needs_library
+    @needs_poppler
     def test_pdf_by_the_library(self) -> None:
         self.write("d.xml", mended())
-        words = [python_with_library(), COMPANION, "timeline", "--tml", TML, "--bare", "d.xml", "-o", "d.pdf"]
-        environment = {**os.environ, "PATH": self.folder, "PYTHONDONTWRITEBYTECODE": "1"}
+        words = [*WITH_PACKAGES, COMPANION, "timeline", "--tml", TML, "--bare", "d.xml", "-o", "d.pdf"]
+        environment = {**with_own_bytecode(), "PATH": self.folder}
         done = subprocess.run(words, cwd=self.folder, env=environment, capture_output=True, text=True, check=False)
         self.assertEqual((done.returncode, done.stderr), (0, ""))
-        said = subprocess.run([tool("pdftotext"), self.path("d.pdf"), "-"], capture_output=True, text=True, check=True).stdout
-        self.assertEqual((said.count("\f"), said.count("waited"), said.count("reopened")), (1, 1, 1))
-        size = subprocess.run([tool("pdfinfo"), self.path("d.pdf")], capture_output=True, text=True, check=True).stdout
-        width = re.search(r"Page size: +([\d.]+) x", size)
-        assert width is not None
-        self.assertAlmostEqual(float(width[1]), 84 * 72 / 25.4, delta=1)
+        text, width = pages(self.path("d.pdf"))
+        self.assertEqual((text.count("\f"), text.count("waited"), text.count("reopened")), (1, 1, 1))
+        self.assertAlmostEqual(width, 84 * 72 / 25.4, delta=1)
 
+    @needs_library
+    @needs_poppler
     def test_letters_are_seen_over_their_halos(self) -> None:
         source = svg(Figure(60, "x", [Text(30, 14, "MMM", 12, "middle", halo=True)], 20)).encode()
         program = "import sys, cairosvg; cairosvg.svg2pdf(file_obj=sys.stdin.buffer, write_to=sys.stdout.buffer)"
-        made = subprocess.run([python_with_library(), "-c", program], input=source, capture_output=True, check=True).stdout
-        drawn = subprocess.run([tool("pdftoppm"), "-gray"], input=made, capture_output=True, check=True).stdout
+        made = subprocess.run([*WITH_PACKAGES, "-c", program], env=with_own_bytecode(), input=source, capture_output=True, check=True)
+        drawn = subprocess.run(["pdftoppm", "-gray"], input=made.stdout, capture_output=True, check=True).stdout
         self.assertGreater(sum(dot < 64 for dot in drawn.split(b"\n255\n", 1)[1]), 100)
 
     def test_the_library_is_asked_first(self) -> None:

@@ -12,11 +12,10 @@ import tomllib
 
 import tml
 import tml_corpus
-from corpus import COMPANION, SOURCES, TML, TOP, needed
+from corpus import COMPANION, SOURCES, TML, TOP
 from installing import CAN_INSTALL, CANNOT, install, of_the_clone
-from processes import interpreter, with_own_bytecode
+from processes import WITH_PACKAGES, with_own_bytecode
 
-PYTHON = interpreter(CAN_INSTALL)
 SAMPLE = os.path.join(TOP, "samples", "rates.xml")
 
 
@@ -41,7 +40,7 @@ class Imported(unittest.TestCase):
 
 
 @of_the_clone
-@unittest.skipUnless(PYTHON, CANNOT)
+@unittest.skipUnless(CAN_INSTALL, CANNOT)
 class Installed(unittest.TestCase):
     """The packages as pip installs them, from a copy of what it reads, into a folder of their own. Nothing of the clone is on the path."""
 
@@ -54,18 +53,18 @@ class Installed(unittest.TestCase):
         cls.addClassCleanup(held.cleanup)
         cls.folder = Path(held.name)
         cls.target = cls.folder / "target"
-        install(needed(PYTHON), cls.target)
+        install(cls.target)
 
     def run_words(self, *words: str) -> tuple[int, str, str]:
         """The status and both streams of a program that finds the packages where they are installed, and `tml` by its variable."""
-        others = {name: value for name, value in with_own_bytecode().items() if name not in ("TML_LIBRARY", "PYTHONHOME")}
+        others = {name: value for name, value in with_own_bytecode().items() if name != "TML_LIBRARY"}
         variables = {**others, "PYTHONPATH": str(self.target), "TML": os.path.abspath(TML)}
         done = subprocess.run(words, cwd=self.folder, env=variables, capture_output=True, text=True, check=False, timeout=120)
         return done.returncode, done.stdout, done.stderr
 
     def run_script(self, script: str) -> tuple[int, str, str]:
         """The same of a script of Python."""
-        return self.run_words(needed(PYTHON), "-c", script)
+        return self.run_words(*WITH_PACKAGES, "-c", script)
 
     def test_all_modules_and_their_data_are_there(self) -> None:
         self.assertEqual(installed_files(self.target), installed_files(Path(SOURCES)))

@@ -1,7 +1,7 @@
 """How long replies of `tml` may be: the bounds by which its process is read, against the largest answers.
 
 For small limits the program is asked for them; for those of the product their size is computed from the forms of the lines, since to make
-them all would take minutes. `TML_SLOW=1` has the longest one made.
+them all would take minutes. Only the longest one is made.
 """
 
 import os
@@ -166,7 +166,7 @@ class Computed(unittest.TestCase):
         self.within("canon", 6 * (DOCUMENT_LIMIT - 100), 0.99)
         self.within("verify", len(b"verified entails %s DURING %s\n" % (self.name, self.name)) * (EVIDENCE_LIMIT // 33 - 1), 0.6)
 
-    @unittest.skipUnless(os.environ.get("TML_SLOW") and os.access(TML, os.X_OK), "takes a minute: TML_SLOW=1 has it tried, with a program")
+    @unittest.skipUnless(os.access(TML, os.X_OK), f"no program {TML}")
     def test_the_longest_answer_is_believed(self) -> None:
         names = [f"{'n' * 60}{number:04}" for number in range(INTERVAL_LIMIT)]
         self.assertEqual(len(Process(TML).answer("relations", [same(names)])[1]), 293_314_560)

@@ -4,13 +4,11 @@ import io
 import os
 import random
 import re
-import signal
-import time
 import unittest
 from unittest import mock
 
 from corpus import TML, CorpusTest, document, match_in, needs_matrix, text_at
-from processes import until
+from processes import PATIENCE, interrupt, until
 from reference.nets import Link, Net
 from reference.possible import possible_by_closure
 from reference.timelines import least_raised, orders_that_fit
@@ -164,12 +162,13 @@ class Refused(OpenTest):
 
     def test_an_interruption(self) -> None:
         self.write("d.xml", document("".join(event(number) for number in range(60))))
-        fake = self.fake(f'[ $1 = matrix ] && [ -e asked ] && sleep 1; [ $1 = matrix ] && touch asked\nexec {TML} "$@"')
-        child = self.start("open", "d.xml", "--jobs", "1", tml=fake)
-        until(lambda: os.path.exists(self.path("asked")), 30)
-        time.sleep(0.5)
-        child.send_signal(signal.SIGINT)
-        out, err = child.communicate(timeout=60)
+        # The second question about all relations is answered once there is a file `go`.
+        held = "if [ -e asked ]; then touch waits; until [ -e go ]; do sleep 0.05; done; fi; touch asked"
+        child = self.start("open", "d.xml", "--jobs", "1", tml=self.fake(f'if [ $1 = matrix ]; then {held}; fi\nexec {TML} "$@"'))
+        until(lambda: os.path.exists(self.path("waits")))
+        interrupt(child)
+        self.write("go", "")
+        out, err = child.communicate(timeout=PATIENCE)
         self.assertEqual((child.returncode, out, err), (130, b"interrupted: not all pairs were looked at\n", b""))
 
 

@@ -11,8 +11,9 @@ from contextlib import contextmanager
 from unittest import mock
 
 from corpus import needed
+from processes import PATIENCE
 from tml_corpus.asking import pool
-from tml_corpus.asking.pool import AHEAD, TOGETHER, Groups, Interruption, do_group, in_order
+from tml_corpus.asking.pool import AHEAD, TOGETHER, Groups, Interruption, Worker, do_group, in_order
 from tml_corpus.asking.program import CannotRun
 from tml_corpus.asking.room import Room, SharedLock, room_for
 
@@ -145,8 +146,8 @@ class Order(unittest.TestCase):
 
 
 @contextmanager
-def slow_to_begin(count: int, seconds: float) -> Iterator[None]:
-    """Has so many processes take so long before they are ready: the first ones that begin."""
+def slow_to_begin(count: int) -> Iterator[None]:
+    """Has so many processes take ten minutes before they are ready: the first ones that begin."""
     reading, writing = os.pipe()
     os.write(writing, b"x" * count)
     os.set_blocking(reading, False)
@@ -155,7 +156,7 @@ def slow_to_begin(count: int, seconds: float) -> Iterator[None]:
     def begin(watched: int, lock: SharedLock) -> None:
         try:
             os.read(reading, 1)
-            time.sleep(seconds)
+            time.sleep(600)
         except BlockingIOError:
             prepare(watched, lock)
 
@@ -167,23 +168,34 @@ def slow_to_begin(count: int, seconds: float) -> Iterator[None]:
         os.close(writing)
 
 
+def soon_late(count: int) -> type[Worker[object]]:
+    """A class of processes of which the first ones are late after half a second, and the others after very long."""
+    made = itertools.count()
+
+    class SoonLate(Worker[object]):
+        def __init__(self, process: int, told: int, answers: int) -> None:
+            super().__init__(process, told, answers)
+            self.late = time.monotonic() + (0.5 if next(made) < count else PATIENCE)
+
+    return SoonLate
+
+
 class LittleRoom(unittest.TestCase):
     """Where there is too little memory, or too few processes or files may be had."""
 
     def test_a_process_that_does_not_get_ready_is_ended(self) -> None:
-        with mock.patch.object(pool, "BEGINNING", 2.0):
-            for workers, slow in ((1, 1), (3, 4)):
-                with self.subTest(workers=workers, slow=slow), slow_to_begin(slow, 60):
-                    begun = time.monotonic()
-                    self.assertEqual(list(in_order(deadly, range(100), workers, Interruption(), lost))[:29], list(range(29)))
-                    self.assertLess(time.monotonic() - begun, 40)
+        for workers, slow in ((1, 1), (3, 4)):
+            with self.subTest(workers=workers, slow=slow), slow_to_begin(slow), mock.patch.object(pool, "Worker", soon_late(slow)):
+                begun = time.monotonic()
+                self.assertEqual(list(in_order(deadly, range(100), workers, Interruption(), lost))[:29], list(range(29)))
+                self.assertLess(time.monotonic() - begun, PATIENCE)
 
     def test_a_process_that_does_not_get_ready_is_not_waited_for(self) -> None:
-        with slow_to_begin(1, 30):
+        with slow_to_begin(1), mock.patch.object(pool, "BEGINNING", 2 * PATIENCE):
             begun = time.monotonic()
             with self.assertRaisesRegex(CannotRun, "^no item 20$"):
                 list(in_order(failing, range(15, 300), 2, Interruption(), lost))
-            self.assertLess(time.monotonic() - begun, 15)
+            self.assertLess(time.monotonic() - begun, PATIENCE)
 
     def test_where_no_process_gets_ready(self) -> None:
         with mock.patch.object(pool, "prepare_worker", side_effect=MemoryError), mock.patch.object(os, "fork", wraps=os.fork) as fork:
@@ -227,10 +239,16 @@ class LittleRoom(unittest.TestCase):
 
 class GroupsOfItems(unittest.TestCase):
     def test_a_group_ends_early_where_its_items_are_slow(self) -> None:
-        self.assertEqual(do_group(slow_at_times, range(5))[0], list(range(5)))
-        results, seconds = do_group(slow_at_times, range(20))
-        self.assertEqual(results, list(range(8)))
-        self.assertGreater(seconds, 0.1)
+        now = 0.0
+
+        def work(item: int) -> int:
+            nonlocal now
+            now += 0.12 if item == 7 else 0.0
+            return item
+
+        with mock.patch("time.monotonic", lambda: now):
+            self.assertEqual(do_group(work, range(5)), (list(range(5)), 0.0))
+            self.assertEqual(do_group(work, range(20)), (list(range(8)), 0.12))
 
     def test_how_many_go_together_and_ahead(self) -> None:
         groups: Groups[None] = Groups(100_000, 4)

@@ -1,5 +1,6 @@
 """The package `tml`: the same answers by the library and by the program, as classes; its misuse; and the examples of docs/PYTHON.md."""
 
+import importlib.util
 import os
 import re
 import subprocess
@@ -7,7 +8,7 @@ import sys
 import tempfile
 import threading
 import unittest
-from collections.abc import Callable, Sequence
+from collections.abc import Callable
 from fractions import Fraction
 from functools import partial
 from pathlib import Path
@@ -15,7 +16,7 @@ from unittest import mock
 
 import tml
 from corpus import SOURCES, TML, TOO_LONG, TOP, of_type, text_at
-from processes import interpreter, with_own_bytecode
+from processes import PATIENCE, WITH_PACKAGES, with_own_bytecode
 from tml import asking, finding
 from tml.running import CannotRun
 from tml.statuses import INTERVAL_LIMIT
@@ -359,19 +360,20 @@ class Examples(unittest.TestCase):
         examples = re.findall(r"```python\n(.*?)```\n(?:\n```text\n(.*?)```\n)?", text_at("docs/PYTHON.md"), re.DOTALL)
         self.assertGreaterEqual(len(examples), 5)
         for source, printed in examples:
-            missing = re.findall(r"^import (networkx|pandas)$", source, re.MULTILINE)
+            missing = [
+                name for name in re.findall(r"^import (networkx|pandas)$", source, re.MULTILINE) if importlib.util.find_spec(name) is None
+            ]
             with self.subTest(source.splitlines()[0]):
-                self.assertEqual(self.ran(source, missing), printed)
+                if missing:
+                    self.skipTest(f"no {' and no '.join(missing)}")
+                self.assertEqual(self.ran(source), printed)
 
-    def ran(self, source: str, needed: Sequence[str]) -> str:
-        """What an example prints, by a Python that has what it needs."""
-        python = interpreter("\n".join(f"import {name}" for name in needed))
-        if python is None:
-            self.skipTest(f"no {' and no '.join(needed)}")
+    def ran(self, source: str) -> str:
+        """What an example prints."""
         found = {"TML": TML, **({"TML_LIBRARY": library_path()} if os.path.isfile(library_path()) else {})}
-        inherited = os.environ if python == sys.executable else with_own_bytecode()
-        environment = {**inherited, **found, "PYTHONPATH": SOURCES, "PYTHONDONTWRITEBYTECODE": "1"}
-        done = subprocess.run([python, "-c", source], cwd=TOP, env=environment, capture_output=True, text=True, check=False, timeout=300)
+        environment = {**with_own_bytecode(), **found, "PYTHONPATH": SOURCES}
+        words = [*WITH_PACKAGES, "-c", source]
+        done = subprocess.run(words, cwd=TOP, env=environment, capture_output=True, text=True, check=False, timeout=PATIENCE)
         self.assertEqual((done.stderr, done.returncode), ("", 0))
         return done.stdout
 

@@ -10,7 +10,7 @@ from collections.abc import Callable
 from functools import partial
 from unittest import mock
 
-from corpus import TML, CorpusTest, document
+from corpus import TML, CorpusTest, document, needs_root
 from tml.running import CannotRun
 from tml_corpus.asking.pool import Interruption, in_order
 from tml_corpus.check.fix import Fixed, write
@@ -24,9 +24,6 @@ OLD, NEW = document("&").encode(), document("&amp;").encode()
 SLIP = document("caf\xe9 &").encode("latin-1")
 ACCESS_LIST = "system.posix_acl_access"
 KEPT = "its owner, group, access list and permissions cannot be kept"
-
-is_root = hasattr(os, "geteuid") and os.geteuid() == 0
-as_root = unittest.skipUnless(is_root, "not run as root, who alone can make files of others")
 
 USER, NAMED_USER, GROUP, MASK, OTHER = 1, 2, 4, 16, 32
 """The kinds of entries of an access list."""
@@ -106,9 +103,9 @@ class RightsTest(ReplacingTest):
     def test_modes_with_every_seventh_number(self) -> None:
         with mock.patch.object(os, "fsync"):
             for mode in range(0, 0o10000, 7):
-                if is_root or mode & 0o400:
+                if os.geteuid() == 0 or mode & 0o400:
                     self.write("d.xml", OLD)
-                    if is_root:
+                    if os.geteuid() == 0:
                         os.chown(self.path("d.xml"), STRANGER, STRANGER)
                     os.chmod(self.path("d.xml"), mode)
                     owner = self.state()[:2]
@@ -125,7 +122,7 @@ class RightsTest(ReplacingTest):
                 self.assertEqual((self.content(), self.state()[2]), (NEW, kept))
                 os.unlink(self.path("d.xml"))
 
-    @as_root
+    @needs_root
     def test_a_file_of_a_stranger_stays_one(self) -> None:
         for mode, kept in ((0o4755, 0o755), (0o600, 0o600)):
             with self.subTest(oct(mode)):
@@ -135,7 +132,7 @@ class RightsTest(ReplacingTest):
                 self.assertEqual(self.run_it("fix", "--write", "d.xml")[0], 0)
                 self.assertEqual((self.content(), self.state()), (NEW, (STRANGER, STRANGER, kept)))
 
-    @as_root
+    @needs_root
     def test_the_new_file_is_never_one_of_root_that_others_may_run(self) -> None:
         os.chown(self.path("d.xml"), STRANGER, STRANGER)
         os.chmod(self.path("d.xml"), 0o4777)
@@ -150,7 +147,7 @@ class RightsTest(ReplacingTest):
             self.mend()
         self.assertEqual(seen, [(STRANGER, 0o777)])
 
-    @as_root
+    @needs_root
     def test_a_stranger_cannot_give_a_file_away(self) -> None:
         os.chmod(self.folder, 0o777)
         os.chmod(self.path("d.xml"), 0o666)
@@ -159,7 +156,7 @@ class RightsTest(ReplacingTest):
         self.assertEqual((status, self.content(), self.state(), self.names()), (1, OLD, before, ["d.xml"]))
         self.assertRegex(raised, f"d.xml cannot be written: {KEPT}: operation not permitted")
 
-    @as_root
+    @needs_root
     def test_where_the_owner_cannot_be_kept_nothing_is_written(self) -> None:
         os.chown(self.path("d.xml"), STRANGER, STRANGER)
         for change_owner in (mock.Mock(side_effect=PermissionError(1, "Operation not permitted")), mock.Mock()):

@@ -8,6 +8,7 @@ import time
 import unittest
 
 from corpus import EVENT, INSTANCE, TML, document
+from processes import PATIENCE, is_running, until
 from serving import Client, Json, ServeTest
 from tml.statuses import DOCUMENT_LIMIT
 
@@ -51,7 +52,7 @@ class Shutdown(ServeTest):
         self.assertEqual((said["error"]["code"], client.told), (-32600, []))
         time.sleep(0.5)
         client.tell("exit", None)
-        self.assertEqual(client.child.wait(60), 0)
+        self.assertEqual(client.child.wait(PATIENCE), 0)
         self.assertIsNone(client.incoming.body())
 
     def hanging(self) -> tuple[Client, str]:
@@ -62,51 +63,35 @@ class Shutdown(ServeTest):
         client = self.started(tml=self.path("hang"), TML_HANGS=self.path("number"))
         self.greet(client)
         client.tell("textDocument/didOpen", {"textDocument": {"uri": self.uri(), "version": 1, "text": FAULTY}})
-        late = time.monotonic() + 30
-        while not os.path.exists(self.path("number")):
-            self.assertLess(time.monotonic(), late)
-            time.sleep(0.02)
-        # It has begun, and the server may not know it yet. That it hangs shows only after a while.
-        time.sleep(1)
+        # It has begun, and the server may not know it yet.
+        until(lambda: os.path.exists(self.path("number")))
         return client, self.path("number")
 
     def assert_gone(self, path: str) -> None:
         """The process of which a file has the number has ended."""
         with open(path, encoding="utf-8") as file:
             number = int(file.read())
-        late = time.monotonic() + 10
-        while time.monotonic() < late:
-            try:
-                os.kill(number, 0)
-                with open(f"/proc/{number}/stat", encoding="utf-8") as file:
-                    if file.read().rpartition(") ")[2].startswith("Z"):
-                        return
-            except (ProcessLookupError, FileNotFoundError):
-                return
-            time.sleep(0.05)
-        self.fail(f"process {number} is there still")
+        until(lambda: not is_running(number))
 
     def test_shutdown_and_exit_come_through_a_tml_that_hangs(self) -> None:
         client, path = self.hanging()
-        begun = time.monotonic()
         hovers = [client.request("textDocument/hover", self.about_start()) for _ in range(3)]
         shutdown = client.request("shutdown", None)
         client.send(*hovers, shutdown, {"method": "exit"})
         errors = [client.answer(one["id"])["error"]["code"] for one in hovers]
         self.assertEqual((errors, client.answer(shutdown["id"])["result"], client.told), ([-32802] * 3, None, []))
-        self.assertEqual(client.child.wait(20), 0)
-        self.assertLess(time.monotonic() - begun, 10)
+        self.assertEqual(client.child.wait(PATIENCE), 0)
         self.assert_gone(path)
 
     def test_exit_alone_and_a_signal_end_a_tml_that_hangs(self) -> None:
         client, path = self.hanging()
         client.tell("exit", None)
-        self.assertEqual(client.child.wait(20), 1)
+        self.assertEqual(client.child.wait(PATIENCE), 1)
         self.assert_gone(path)
         os.unlink(path)
         client, path = self.hanging()
         client.child.send_signal(signal.SIGTERM)
-        self.assertEqual(client.child.wait(20), -signal.SIGTERM)
+        self.assertEqual(client.child.wait(PATIENCE), -signal.SIGTERM)
         self.assert_gone(path)
 
     def about_start(self) -> Json:

@@ -61,7 +61,7 @@ def settings_at(path: str) -> Settings:
 
 
 def nearest_file(path: str) -> Nearest:
-    """The file of settings in the folder of a path, or the nearest one above it that this user owns."""
+    """The file of settings in the folder of a path, or the nearest one above it that this user owns, but none above the user's home."""
     lowest = folder = os.path.abspath(path if os.path.isdir(path) else os.path.dirname(path))
     passed_by: list[str] = []
     while True:
@@ -71,7 +71,7 @@ def nearest_file(path: str) -> Nearest:
                 return Nearest(place, tuple(passed_by))
             passed_by.append(place)
         above = os.path.dirname(folder)
-        if above == folder:
+        if folder in (above, os.path.expanduser("~")):
             return Nearest(None, tuple(passed_by))
         folder = above
 
