@@ -22,7 +22,7 @@ class Watching(unittest.TestCase):
         Path(folder, "build").write_text("read -r line\n", encoding="utf-8")
         child = subprocess.Popen(["bash", "-c", AS_PROVER, "bash", *words], cwd=folder, stdin=subprocess.PIPE)
         self.addCleanup(child.communicate)
-        until(lambda: b"rattle" in Path(f"/proc/{child.pid}/cmdline").read_bytes(), 60)
+        until(lambda: b"rattle" in Path(f"/proc/{child.pid}/cmdline").read_bytes())
         return child
 
     def test_provers_below_a_process(self) -> None:
