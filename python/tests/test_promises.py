@@ -134,6 +134,9 @@ impl Inputs for Memory {
 }
 
 impl Value {
+    /// The most.
+    pub const N: u32 = 4;
+
     /// The number.
     pub fn number(&self, other: u32) -> u32
         requires { other ≤ self.now.number }
@@ -156,6 +159,8 @@ pub fn first(words: &[u8]) -> Option<u8>
     words.first().copied()
 }
 """,
+    "crates/base/src/one.rt": "pub enum Kind {\n    A,\n    B,\n}\n",
+    "crates/base/src/two.rt": "pub enum Kind {\n    B,\n    A,\n}\n",
     "crates/top/specs/Lib.antt": "",
     "crates/top/src/lib.rt": """\
 //! The top.
@@ -232,7 +237,10 @@ SAME = [
     ("a variable of a pair", FILE, "(n : ℕ) × (before ≤ n) × (λ m. m ≤ now) n", "(m : ℕ) × (before ≤ m) × (λ m. m ≤ now) m"),
     ("a variable of a branch", FILE, "Some x ↦ f x", "Some y ↦ f y"),
     ("a variable of a statement", FILE, "y ← first_of xs\n  Some y", "z ← first_of xs\n  Some z"),
-    ("a variable of a signature", FILE, "{T : Type 0}", "{U : Type 0}"),
+    ("a comment in a comment", FILE, "-- few bytes", "{- a {- few -} bytes -}"),
+    ("a comment in a comment of the code", BASE, "number: u32,\n    texts", "number: /* a /* b */ c */ u32,\n    texts"),
+    ("the notation of a number", LIMITS, "least = 12", "least = 0xc"),
+    ("the notation of a number of the code", BASE, "LEAST: u32 = 6", "LEAST: u32 = 0b1_10"),
     ("the name of a definition", None, "IsShort", "IsBrief"),
     ("the name of a definition in a cycle", None, "Odd", "Uneven"),
     ("an alias", BASE, "files", "texts_of_files"),
@@ -288,10 +296,104 @@ CHANGED = [
     ("the operator by which a block is read", FILE, "Some x ↦ f x", "Some x ↦ None", BOTH),
     ("the end of a statement", FILE, "x ← first_of xs\n  y ← first_of xs", "x ← first_of\n  xs y ← first_of xs", BOTH),
     ("another variable of a statement", FILE, "Some y\n", "Some x\n", BOTH),
+    ("the name of an implicit argument", FILE, "{T : Type 0}", "{U : Type 0}", GROWS),
     ("a fixity", FILE, "infixl 10", "infixl 20", BOTH),
     ("a signature", FILE, "pub both : List ℕ → Option ℕ", "pub both : List ℕ → Option Bool", BOTH),
 ]
 """Changes of one file, each with the lines that it changes: of a function, or of a clause of it."""
+
+APART = [
+    ("a path without a use", RUN, "value: &Value", "value: &base::Value", BASE, "LEAST: u32 = 6", "LEAST: u32 = 7"),
+    ("the path of a constant", BASE, "LEAST + 1", "crate::LEAST + 1", BASE, "LEAST: u32 = 6", "LEAST: u32 = 7"),
+    ("a constant of a type", BASE, "self.now.number }\n    {", "self.now.number + Value.N }\n    {", BASE, "= 4;", "= 5;"),
+    (
+        "constructors that no line imports",
+        RUN,
+        "result ≤ 3",
+        "elim words [ Ok v ↦ ⊤ | Err e ↦ ⊥ ]",
+        RUN,
+        "Ok v ↦ ⊤ | Err e ↦ ⊥",
+        "Err v ↦ ⊤ | Ok e ↦ ⊥",
+    ),
+    ("two constructors in a line", VALUES, "leaf : ℕ → Tree", "leaf more : ℕ → Tree", VALUES, "size (leaf n) = n", "size (more n) = n"),
+    (
+        "a file and a name in it",
+        FILE,
+        "use Rattle.base.specs.Limits.{most}",
+        "use Rattle.base.specs.Limits.{most}\nuse Rattle.other.most",
+        LIMITS,
+        "12",
+        "13",
+    ),
+    ("implicit arguments", FILE, "{T : Type 0}", "{T U : Type 0}", FILE, "{T U : Type 0}", "{U T : Type 0}"),
+    (
+        "a variable of the field before",
+        VALUES,
+        "pub number : ℕ",
+        "pub low : (size : ℕ) → ℕ\n  pub number : size ≡ size",
+        VALUES,
+        "= size right",
+        "= size left",
+    ),
+    ("a variable of a let's value", FILE, "length bytes ≤ most", "let f = λ most. most in f ≤ most", LIMITS, "12", "13"),
+    (
+        "a variable of the statement before",
+        FILE,
+        "x ← first_of xs\n",
+        "x ← (λ first_of. first_of) xs\n",
+        FILE,
+        "(x ∷ xs) = Some x",
+        "(x ∷ xs) = None",
+    ),
+    (
+        "the end of an inner block",
+        FILE,
+        "  y ← first_of xs\n  Some",
+        "  y ← do\n    z ← first_of xs\n    None\n  Some",
+        FILE,
+        "    None\n  Some",
+        "    None\n    Some",
+    ),
+    (
+        "operators in one fixity",
+        FILE,
+        "infixl 10 ◌>>=◌",
+        "infixl 10 ◌>>=◌ ◌⊕◌\nabbrev pub ◌⊕◌ : ℕ → ℕ\nn ⊕ m = n\n",
+        FILE,
+        "infixl 10",
+        "infixr 10",
+    ),
+    (
+        "the type parameters of an impl",
+        BASE,
+        "impl Model for Value {",
+        "impl<T, U> Model for Value {",
+        BASE,
+        "impl<T, U> Model for Value {",
+        "impl<T, U> Model for Value<U, T> {",
+    ),
+    ("an import below its use", BASE, "impl Value {", "ghost use Rattle.base.specs.Limits.{most};\nimpl Value {", LIMITS, "12", "13"),
+    (
+        "an associated type",
+        BASE,
+        "impl Inputs for Memory {",
+        "impl Inputs for Memory {\n    type Item = u8;",
+        BASE,
+        "Item = u8",
+        "Item = u16",
+    ),
+    (
+        "two types of one name",
+        BASE,
+        "use std::marker::Model;",
+        "mod one;\nmod two;\nuse std::marker::Model;\nuse crate::one::Kind;\npub fn kind(kind: Kind)\n    ensures { kind ≡ Kind.A }\n{\n}",
+        BASE,
+        "crate::one",
+        "crate::two",
+    ),
+    ("a bound of a trait", BASE, "pub trait Inputs {", "pub trait Inputs: Copy {", BASE, "Inputs: Copy", "Inputs: Drop"),
+]
+"""Changes that bring in what the small repository lacks, each with a change after it, which some line has to show."""
 
 UNKNOWN = [
     (
@@ -305,6 +407,24 @@ UNKNOWN = [
     ("an item of another kind", RUN, "use base", "union base {}\nuse base", "fn or struct or enum"),
     ("a brace that is not closed", RUN, "{ result ≤ 3 }", "{ result ≤ 3", "a brace is not closed"),
     ("a line that defines nothing", FILE, "-- few bytes", "axiom x", "neither a signature nor an equation"),
+    ("a path in a term", FILE, "length bytes ≤ most", "length bytes ≤ Rattle.base.specs.Limits.most", "import the name"),
+    (
+        "a pair that may reach two ways",
+        FILE,
+        "length bytes ≤ most",
+        "(x : ℕ) × (x ≤ most) → x ≤ x",
+        "brackets have to say how far x reaches",
+    ),
+    ("a let of a pattern", FILE, "length bytes ≤ most", "let (x, y) = bytes in x", "a let of a pattern"),
+    ("a let without in", FILE, "  y ← first_of xs", "  let y = (let z = 1)", "a let without its in"),
+    ("two statements in a line", FILE, "  x ← first_of xs\n  y", "  x ← first_of xs; y", "a statement on each line"),
+    ("an equation with a where", FILE, "= Some x", "= y where y = Some x", "neither a signature nor an equation"),
+    ("a fixity of nothing", FILE, "◌>>=◌\nabbrev", "◌>>◌\nabbrev", "a fixity of ◌>>◌"),
+    ("a use of all names", RUN, "use base::{Inputs, Value}", "use base::*", "a use of all names"),
+    ("a public name that is another", "crates/top/src/lib.rt", "{copied, ", "{copied as same, ", "a public one under another name"),
+    ("a constant that is computed elsewhere", BASE, "LEAST + 1", "next(LEAST)", "MAX calls a function"),
+    ("a file that ends too early", FILE, "  Some y\n", "  Some y\n\nabbrev", "has another form"),
+    ("a comment that is not closed", BASE, "//! Inputs.", "/* Inputs.", "a comment is not closed"),
 ]
 """Changes after which a file is not what this tool knows, and what it says."""
 
@@ -370,6 +490,17 @@ class Small(unittest.TestCase):
                 self.change(name, old, new)
                 after = lines_of(self.listed())
                 self.assertEqual({key for key in self.before | after if self.before.get(key) != after.get(key)}, wanted)
+
+    def test_what_was_found_by_attacks(self) -> None:
+        for title, name, old, new, other, before, after in APART:
+            with self.subTest(title):
+                self.change(name, old, new)
+                one = self.listed()
+                path = self.top / other
+                text = path.read_text(encoding="utf-8")
+                self.assertIn(before, text)
+                path.write_text(text.replace(before, after), encoding="utf-8")
+                self.assertNotEqual(one, self.listed())
 
     def test_what_is_not_known(self) -> None:
         for title, name, old, new, said in UNKNOWN:

@@ -4,13 +4,16 @@ from __future__ import annotations
 
 from collections.abc import Iterator, Mapping, Sequence
 from dataclasses import dataclass, field
+from itertools import takewhile
 from typing import NamedTuple
 
 from promises.scanning import Token, Unreadable, tokens_of_definitions
-from promises.terms import BRACKETS, SELF, Piece, Scope, Term
+from promises.terms import BRACKETS, SELF, SIGNS, Piece, Scope, Term
 
 MODIFIERS = ("unfoldable", "abbrev", "pub")
 FIXITIES = ("infix", "infixl", "infixr")
+MODULE = "module "
+"""What stands before the name of an imported file, so that it is no name of a term."""
 
 
 class Import(NamedTuple):
@@ -29,11 +32,9 @@ def imports_of(tokens: Sequence[Token], is_public: bool) -> Iterator[tuple[str, 
     while at < len(tokens) and tokens[at].text.startswith(".") and tokens[at].text != ".":
         path.append(tokens[at].text[1:])
         at += 1
-    if at == len(tokens):
-        yield path[-1], Import(tuple(path), None, is_public)
-        return
-    if tokens[at].text == "as":
-        yield tokens[at + 1].text, Import(tuple(path), None, is_public)
+    if at == len(tokens) or tokens[at].text == "as":
+        # A file and an item of one name are two names.
+        yield MODULE + (path[-1] if at == len(tokens) else tokens[at + 1].text), Import(tuple(path), None, is_public)
         return
     listed = [token.text for token in tokens[at + 2 : -1]]
     if [token.text for token in (*tokens[at : at + 2], tokens[-1])] != [".", "{", "}"]:
@@ -49,6 +50,8 @@ class Definition:
 
     name: str
     statements: list[list[Token]] = field(default_factory=list)
+    number: int = 0
+    """Its number among those of the file."""
     fixity: tuple[str, ...] = ()
     is_data: bool = False
     constructors: list[str] = field(default_factory=list)
@@ -99,7 +102,7 @@ def read_file(name: str, text: str) -> File:
         if first == "use":
             file.imports.update(imports_of(item[words.index("use") + 1 :], words[0] == "pub"))
         elif first in FIXITIES:
-            fixities[words[-1]] = tuple(words[:-1])
+            fixities.update((word, tuple(one for one in words if "◌" not in one)) for word in words if "◌" in word)
         elif first in ("record", "data"):
             last = declared(item[words.index(first) :])
             file.constructors.update((one, last.name) for one in last.constructors)
@@ -107,8 +110,10 @@ def read_file(name: str, text: str) -> File:
             last = statement_of(item, last, name)
         if last is not None:
             file.definitions[last.name] = last
-    for operator, fixity in fixities.items():
-        file.definitions[operator].fixity = fixity
+    for number, definition in enumerate(file.definitions.values()):
+        definition.number, definition.fixity = number, fixities.pop(definition.name, ())
+    if fixities:
+        raise Unreadable(f"{name}: a fixity of {' and '.join(fixities)}, which the file does not define")
     return file
 
 
@@ -116,8 +121,10 @@ def declared(item: list[Token]) -> Definition:
     """A `record` or a `data`, and the names of the constructors of a `data`."""
     found = Definition(item[1].text, [item], is_data=True)
     if item[0].text == "data":
-        lines = [at for at, token in enumerate(item) if token.is_first and at > 0 and item[at + 1 : at + 2]]
-        found.constructors = [item[at].text for at in lines if item[at + 1].text == ":"]
+        for at in (at for at, token in enumerate(item) if token.is_first and at > 0):
+            names = list(takewhile(lambda text: text not in SIGNS, (token.text for token in item[at:])))
+            if [token.text for token in item[at + len(names) : at + len(names) + 1]] == [":"]:
+                found.constructors += names
     return found
 
 
@@ -128,7 +135,7 @@ def statement_of(item: list[Token], last: Definition | None, name: str) -> Defin
         at += 1
     if len(item) > at + 1 and item[at + 1].text == ":":
         return Definition(item[at].text, [item[at:]])
-    if last is None or last.is_data or at or "=" not in [token.text for token in item]:
+    if last is None or last.is_data or at or "=" not in [token.text for token in item] or "where" in [token.text for token in item]:
         raise Unreadable(f"{name}:{item[0].line}: neither a signature nor an equation of the definition before")
     last.statements.append(item)
     return last
@@ -140,7 +147,7 @@ def meaning(definition: Definition, scope: Scope) -> list[Piece]:
     found: list[Piece] = [*definition.fixity]
     if definition.is_data:
         term = Term(scope, own)
-        term.pieces += [token.text for token in definition.statements[0][:2]]
+        term.pieces.append(definition.statements[0][0].text)
         term.read(definition.statements[0][2:])
         return [*found, *term.pieces]
     signature = Term(scope, own)

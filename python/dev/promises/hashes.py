@@ -19,8 +19,8 @@ def digest(parts: Iterable[str]) -> str:
 class Hashes:
     """The hashes of definitions, each made once."""
 
-    def __init__(self, meaning: Callable[[Reference], Sequence[Piece]]) -> None:
-        self.meaning = meaning
+    def __init__(self, meaning: Callable[[Reference], Sequence[Piece]], place: Callable[[Reference], tuple[str, str, int, str]]) -> None:
+        self.meaning, self.place = meaning, place
         self.meanings: dict[Reference, Sequence[Piece]] = {}
         self.known: dict[Reference, str] = {}
         self.numbers: dict[Reference, int] = {}
@@ -73,7 +73,7 @@ class Hashes:
     def end(self, first: Reference) -> None:
         """Makes the hashes of the definitions that speak of each other, of which this is the first that was visited."""
         at = self.waiting.index(first)
-        cycle, self.waiting = sorted(self.waiting[at:], key=lambda one: (one.name, one)), self.waiting[:at]
+        cycle, self.waiting = sorted(self.waiting[at:], key=self.place), self.waiting[:at]
         places = {one: f"@{place}" for place, one in enumerate(cycle)}
         texts = [digest(self.piece(piece, places) for piece in self.meanings[one]) for one in cycle]
         for one in cycle:

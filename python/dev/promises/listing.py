@@ -9,7 +9,7 @@ from collections.abc import Iterator, Sequence
 from pathlib import Path
 
 from promises.hashes import Hashes
-from promises.meanings import MODEL, Meanings, generics_of, parameters_of
+from promises.meanings import Meanings, generics_of, parameters_of
 from promises.scanning import Token, Unreadable
 from promises.sources import Clause, Function, Item, Source
 from promises.tree import Crate, Tree, owner_of, trait_of
@@ -46,7 +46,7 @@ class Listing:
     def __init__(self, tree: Tree) -> None:
         self.tree = tree
         self.meanings = Meanings(tree)
-        self.hashes = Hashes(self.meanings.of)
+        self.hashes = Hashes(self.meanings.of, self.meanings.place)
 
     def text(self) -> str:
         """The whole list."""
@@ -62,11 +62,11 @@ class Listing:
         for source in crate.sources.values():
             for function in source.functions:
                 is_main = is_all and source is crate.root and function.name == "main"
-                if is_main or (function.is_public and (is_all or function.name in crate.exported or is_open(crate, source))):
+                if is_main or (function.is_public and (is_all or function.name in crate.exported or crate.is_open(source))):
                     yield self.function(crate, source, None, function, "")
             for item in source.items:
                 name = owner_of(item) if item.kind == "impl" else item.name
-                if is_all or name in crate.exported or is_open(crate, source) or name not in crate.items:
+                if is_all or name in crate.exported or crate.is_open(source) or name not in crate.items:
                     yield from self.members(crate, source, item, name)
 
     def members(self, crate: Crate, source: Source, item: Item, owner: str) -> Iterator[list[str]]:
@@ -74,12 +74,17 @@ class Listing:
         if item.kind not in ("trait", "impl"):
             return
         trait = trait_of(item) if item.kind == "impl" else ""
-        if item.ghosts:
-            head = f"trait {owner}" if item.kind == "trait" else f"impl {trait or MODEL} for {owner}"
-            yield [
-                head,
-                *(self.line(ghost, self.hashes.of(self.meanings.of_ghost(crate.name, source, item, ghost))) for ghost in item.ghosts),
-            ]
+        names = generics_of(item.generics)
+        if item.kind == "trait":
+            found = [f"trait {owner}{readable(item.head, names)}"]
+        else:
+            found = [f"impl {readable(item.head, names)}"]
+        found += [self.line(ghost, self.hashes.of(self.meanings.of_ghost(crate.name, source, item, ghost))) for ghost in item.ghosts]
+        for name, value in item.associated.items():
+            constant = Clause("", name, value, {})
+            found.append(self.line(constant, self.hashes.of(self.meanings.of_ghost(crate.name, source, item, constant))))
+        if item.kind == "trait" or len(found) > 1:
+            yield found
         for function in item.functions:
             if item.kind == "trait" or function.is_public or (trait and function.clauses):
                 yield self.function(crate, source, item, function, f"<{owner} as {trait}>::" if trait else f"{owner}::")
@@ -94,12 +99,6 @@ class Listing:
     def line(self, clause: Clause, text: str) -> str:
         """The line of a clause."""
         return "  " + " ".join(filter(None, (clause.kind, clause.name, text)))
-
-
-def is_open(crate: Crate, source: Source) -> bool:
-    """Whether other crates reach the items of a file by the path of its module."""
-    name = next(name for name, one in crate.sources.items() if one is source)
-    return name.removesuffix(".rt") in crate.root.public_modules
 
 
 def main(words: Sequence[str], top: Path = TOP) -> int:

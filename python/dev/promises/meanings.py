@@ -2,13 +2,14 @@
 
 from __future__ import annotations
 
+import re
 from collections.abc import Iterator, Mapping, Sequence
-from itertools import count
+from itertools import count, pairwise
 
 from promises.definitions import meaning
-from promises.scanning import Token
+from promises.scanning import Token, Unreadable
 from promises.sources import Clause, Function, Item, Source, split
-from promises.terms import Piece, Reference, Term
+from promises.terms import NUMERAL, Piece, Reference, Term
 from promises.tree import SRC, ClauseScope, FileScope, Tree, owner_of, trait_of
 
 MODEL = "Model"
@@ -26,16 +27,32 @@ def generics_of(*lists: Sequence[Token]) -> dict[str, str]:
 
 
 def rust_pieces(tokens: Sequence[Token], names: Mapping[str, str], scope: ClauseScope) -> Iterator[Piece]:
-    """What tokens of src/ mean: a letter for each type parameter, and a definition for each name of this repository."""
-    for at, token in enumerate(tokens):
-        text = token.text
-        is_field = at + 1 < len(tokens) and tokens[at + 1].text == ":"
+    """What tokens of src/ mean: a letter for each type parameter, and a definition for each name or path of this repository."""
+    at = 0
+    while at < len(tokens):
+        text = tokens[at].text
+        follows = tokens[at + 1].text if at + 1 < len(tokens) else ""
+        path = [text]
+        while follows == "::" and at + 2 < len(tokens) and tokens[at + 2].text[0].isalpha():
+            path.append(tokens[at + 2].text)
+            at += 2
+            follows = tokens[at + 1].text if at + 1 < len(tokens) else ""
+        at += 1
         if text in names:
-            yield names[text]
-        elif is_field or not (text[0].isalpha() or text[0] == "_"):
-            yield text
+            yield from (names[text], *path[1:])
+        elif follows == ":" or not (text[0].isalpha() or text[0] == "_"):
+            yield str(int(text.replace("_", ""), 0)) if re.fullmatch(NUMERAL, text) else text
         else:
-            yield from scope.pieces(text) or (text,)
+            yield from pieces_of_path(path, scope)
+
+
+def pieces_of_path(path: Sequence[str], scope: ClauseScope) -> tuple[Piece, ...]:
+    """What a path is: a definition, one of its variants or constants, or something of the kit."""
+    if len(path) > 1 and (found := scope.tree.at_path(scope.crate, scope.source, path)) is not None:
+        return (found,)
+    first = scope.pieces(path[0]) if len(path) < 2 else scope.at_path(path[:-1])
+    member = scope.member(path[0], path[1]) if len(path) == 2 else None
+    return member or (*(first or path[:1]), *path[1:])
 
 
 def parameters_of(function: Function) -> dict[str, tuple[str, list[Token]]]:
@@ -60,6 +77,13 @@ class Meanings:
 
     def of(self, reference: Reference) -> list[Piece]:
         """What a definition means, with references to those that it speaks of."""
+        try:
+            return self.read(reference)
+        except LookupError as error:
+            raise Unreadable(f"{' '.join(reference)} has another form than this tool knows: {error}") from None
+
+    def read(self, reference: Reference) -> list[Piece]:
+        """What a definition means, if all of it has a known form."""
         crate = self.tree.crates[reference.crate]
         if reference.file != SRC:
             scope = FileScope(self.tree, reference.crate, reference.file)
@@ -72,6 +96,17 @@ class Meanings:
             found += [";", *self.of_ghost(reference.crate, source, item, ghost)]
         return found
 
+    def place(self, reference: Reference) -> tuple[str, str, int, str]:
+        """The crate, the file and the number there of a definition, by which those of a cycle are told apart whatever their names are."""
+        if reference.file == SRC:
+            return reference.crate, reference.file, 0, reference.name
+        return (
+            reference.crate,
+            reference.file,
+            self.tree.crates[reference.crate].files[reference.file].definitions[reference.name].number,
+            "",
+        )
+
     def scope(self, crate: str, source: Source, clause: Clause | None = None, item: Item | None = None) -> ClauseScope:
         """What names are in an item, and in a clause of it."""
         name = "" if item is None else owner_of(item) if item.kind == "impl" else item.name
@@ -79,16 +114,24 @@ class Meanings:
         return ClauseScope(self.tree, crate, source, clause.imports if clause else {}, owner)
 
     def of_ghost(self, crate: str, source: Source, item: Item, ghost: Clause) -> list[Piece]:
-        """What a ghost member or a ghost field means."""
-        term = Term(self.scope(crate, source, ghost, item), generics_of(item.generics) | {"Self": "Self"} if item.kind == "trait" else {})
+        """What a ghost member or a ghost field means, or a constant of an `impl`."""
+        scope, names = self.scope(crate, source, ghost, item), generics_of(item.generics)
+        head = [names.get(token.text, token.text) for token in item.head] if item.kind == "impl" else []
+        if not ghost.kind:
+            return [*head, *rust_pieces(ghost.term, names, scope)]
+        term = Term(scope, names | ({"Self": "Self"} if item.kind == "trait" else {}))
         term.read(ghost.term)
-        return term.pieces
+        return [*head, *term.pieces]
 
     def of_item(self, reference: Reference, source: Source, item: Item) -> Iterator[Piece]:
         """What an item means, and if it is a type what its model is."""
         crate, names = reference.crate, generics_of(item.generics)
         scope = self.scope(crate, source, item=item)
-        yield from (item.kind, item.name)
+        yield item.kind
+        if item.kind not in ("const", "static"):
+            yield item.name
+        elif any(token.text[0].islower() and after.text == "(" for token, after in pairwise(item.body)):
+            raise Unreadable(f"{item.name} calls a function, whose body this tool does not read")
         for tokens in (item.generics, item.head, item.body):
             yield from (";", *rust_pieces(tokens, names, scope))
         for ghost in item.ghosts:

@@ -9,11 +9,16 @@ import re
 from collections.abc import Iterator, Sequence
 from dataclasses import dataclass
 
-SKIPPED = re.compile(r"(?:\s+|--[^\n]*|\{-(?:[^-]|-(?!\}))*-\})+")
+SPACE = re.compile(r"(?:\s+|--[^\n]*)+")
 TERM = re.compile(r'⟦<[^⟧]*>⟧|"(?:\\.|[^"\\\n])*"|[(){};,@]|«[^»\s]*»|[^\s(){}.;,@"«»]+|\.')
-RUST_SKIPPED = re.compile(r"(?:\s+|//[^\n]*|/\*(?:[^*]|\*(?!/))*\*/)+")
+RUST_SPACE = re.compile(r"(?:\s+|//[^\n]*)+")
+COMMENTS = {SPACE: ("{-", "-}"), RUST_SPACE: ("/*", "*/")}
 RUST = re.compile(r'b?"(?:\\.|[^"\\])*"|b?r(#*)".*?"\1|b?\'(?:\\.[^\']*|[^\\\'])\'|\'[A-Za-z_]\w*|[A-Za-z_]\w*|\d\w*|->|=>|::|.', re.DOTALL)
 OPENING, CLOSING = "([{", ")]}"
+
+
+RESERVED = frozenset("as in do let where elim record data open use mod pub package Type".split())
+"""Words of antt that are names between « and » alone."""
 
 
 class Unreadable(Exception):
@@ -49,11 +54,34 @@ class Places:
         return Token(text, self.line, place - self.start, not self.text[self.start : place].strip())
 
 
+def skipped(text: str, place: int, space: re.Pattern[str]) -> int:
+    """The place after the blanks and comments at a place. A comment between signs may have others in it."""
+    opening, closing = COMMENTS[space]
+    while True:
+        found = space.match(text, place)
+        place = found.end() if found else place
+        if not text.startswith(opening, place):
+            return place
+        depth = 0
+        for sign in re.finditer(f"{re.escape(opening)}|{re.escape(closing)}", text[place:]):
+            depth += 1 if sign[0] == opening else -1
+            if depth == 0:
+                place += sign.end()
+                break
+        else:
+            raise Unreadable(f"a comment is not closed: {text[place:place + 20]!r}")
+
+
+def plain(word: str) -> str:
+    """A name without the signs around it, unless it would be another word without them."""
+    return word if word.startswith('"') or word.strip("«»") in RESERVED else word.strip("«»")
+
+
 def term_tokens(text: str, places: Places, place: int, end: int) -> Iterator[tuple[Token, int]]:
     """The tokens of antt from a place on, each with the place at which it ends."""
     while True:
-        skipped = SKIPPED.match(text, place, end)
-        spaced, place = skipped is not None, skipped.end() if skipped else place
+        before, place = place, skipped(text, place, SPACE)
+        spaced = place > before
         if place >= end:
             return
         found = TERM.match(text, place, end)
@@ -62,7 +90,7 @@ def term_tokens(text: str, places: Places, place: int, end: int) -> Iterator[tup
         word = found[0]
         if word == "." and not spaced and (field := TERM.match(text, found.end(), end)) and (field[0][0].isalnum() or field[0][0] in "_«"):
             word, found = "." + field[0].strip("«»"), field
-        yield places.token(word if word.startswith('"') else word.strip("«»"), place), found.end()
+        yield places.token(plain(word), place), found.end()
         place = found.end()
 
 
@@ -81,8 +109,7 @@ class Reader:
     def peek(self) -> Token | None:
         """The next token, or None at the end of the file."""
         if self.ahead is None:
-            skipped = RUST_SKIPPED.match(self.text, self.place)
-            place = skipped.end() if skipped else self.place
+            place = skipped(self.text, self.place, RUST_SPACE)
             if place == len(self.text):
                 return None
             found = RUST.match(self.text, place)

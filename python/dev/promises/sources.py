@@ -2,13 +2,15 @@
 
 from __future__ import annotations
 
-from collections.abc import Iterator, Sequence
+from collections import ChainMap
+from collections.abc import Iterator, MutableMapping, Sequence
 from dataclasses import dataclass, field
 from typing import NamedTuple
 
 from promises.definitions import Import, imports_of
 from promises.scanning import CLOSING, OPENING, Reader, Token
 
+Imports = MutableMapping[str, Import]
 CLAUSES = ("requires", "ensures", "ghost")
 QUALIFIERS = ("const", "unsafe", "extern", "async", "static")
 
@@ -19,7 +21,7 @@ class Clause(NamedTuple):
     kind: str
     name: str
     term: list[Token]
-    imports: dict[str, Import]
+    imports: Imports
     """What its file imports for it, and the item around it."""
 
 
@@ -48,9 +50,11 @@ class Item:
     head: list[Token] = field(default_factory=list)
     """What stands between the generics and the braces: bounds, or the trait and the type of an `impl`."""
     body: list[Token] = field(default_factory=list)
-    """The fields, the variants or the value; of a trait or an `impl` its associated types."""
+    """The fields, the variants or the value."""
     ghosts: list[Clause] = field(default_factory=list)
     functions: list[Function] = field(default_factory=list)
+    associated: dict[str, list[Token]] = field(default_factory=dict)
+    """The types and constants of a trait or an `impl`, each with the tokens after its name."""
 
 
 @dataclass
@@ -68,7 +72,7 @@ class Source:
 def read_source(name: str, text: str) -> Source:
     """Reads a file of src/."""
     reader, source = Reader(name, text), Source(name)
-    imports: dict[str, Import] = {}
+    imports: Imports = {}
     while reader.peek() is not None:
         if skip_attribute(reader):
             continue
@@ -77,7 +81,10 @@ def read_source(name: str, text: str) -> Source:
             reader.take("use")
             imports.update(imports_of(reader.import_line(), False))
         elif reader.accept("use"):
-            source.uses.update((other, (path, is_public)) for path, other in paths_of(reader.until(";")))
+            for path, other in paths_of(reader.until(";")):
+                if other == "*" or (is_public and other != path[-1]):
+                    raise reader.unreadable("a use of all names, or a public one under another name")
+                source.uses[other] = path, is_public
             reader.take(";")
         elif reader.accept("mod"):
             module = reader.take().text
@@ -140,7 +147,7 @@ def split(tokens: Sequence[Token]) -> list[list[Token]]:
     return [part for part in parts if part]
 
 
-def read_item(reader: Reader, source: Source, imports: dict[str, Import], is_public: bool) -> None:
+def read_item(reader: Reader, source: Source, imports: Imports, is_public: bool) -> None:
     """Reads an item that is no import and no module."""
     qualifiers = read_qualifiers(reader)
     word = reader.take("fn", "struct", "enum", "type", "const", "static", "trait", "impl").text
@@ -154,7 +161,7 @@ def read_item(reader: Reader, source: Source, imports: dict[str, Import], is_pub
     elif word in ("struct", "enum"):
         source.items.append(read_type(reader, imports, word, is_public))
     else:
-        source.items.append(read_members(reader, dict(imports), word, is_public))
+        source.items.append(read_members(reader, ChainMap({}, imports), word, is_public))
 
 
 def read_qualifiers(reader: Reader) -> tuple[str, ...]:
@@ -180,7 +187,7 @@ def read_generics(reader: Reader) -> list[Token]:
     return found[:-1]
 
 
-def read_function(reader: Reader, imports: dict[str, Import], is_public: bool, qualifiers: tuple[str, ...]) -> Function:
+def read_function(reader: Reader, imports: Imports, is_public: bool, qualifiers: tuple[str, ...]) -> Function:
     """Reads a function after its `fn`, and leaves out its body."""
     name = reader.take().text
     generics = read_generics(reader)
@@ -195,7 +202,7 @@ def read_function(reader: Reader, imports: dict[str, Import], is_public: bool, q
     return made
 
 
-def read_clause(reader: Reader, imports: dict[str, Import]) -> Clause:
+def read_clause(reader: Reader, imports: Imports) -> Clause:
     """Reads a clause: `requires`, `ensures` or `ghost`, its name if it has one, and its term."""
     kind = reader.take(*CLAUSES).text
     kind += reader.take("*").text if reader.is_next("*") else ""
@@ -204,7 +211,7 @@ def read_clause(reader: Reader, imports: dict[str, Import]) -> Clause:
     return Clause(kind, name, reader.term(), imports)
 
 
-def read_type(reader: Reader, imports: dict[str, Import], word: str, is_public: bool) -> Item:
+def read_type(reader: Reader, imports: Imports, word: str, is_public: bool) -> Item:
     """Reads a struct or an enum after its first word: its fields and variants, and the ghost ones among them."""
     name = reader.take().text
     made = Item(word, name, is_public, read_generics(reader), reader.until("{", "(", ";"))
@@ -228,7 +235,7 @@ def read_type(reader: Reader, imports: dict[str, Import], word: str, is_public: 
     return made
 
 
-def read_members(reader: Reader, imports: dict[str, Import], word: str, is_public: bool) -> Item:
+def read_members(reader: Reader, imports: Imports, word: str, is_public: bool) -> Item:
     """Reads a trait or an `impl` after its first word: its functions and its ghost members."""
     name = reader.take().text if word == "trait" else ""
     made = Item(word, name, is_public, read_generics(reader), reader.until("{"))
@@ -250,7 +257,8 @@ def read_members(reader: Reader, imports: dict[str, Import], word: str, is_publi
         if reader.accept("fn"):
             made.functions.append(read_function(reader, imports, member_is_public, qualifiers))
             continue
-        made.body.append(reader.take("type", "const"))
-        made.body += reader.until(";")
+        reader.take("type", "const")
+        associated = reader.take().text
+        made.associated[associated] = reader.until(";")
         reader.take(";")
     return made

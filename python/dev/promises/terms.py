@@ -2,16 +2,20 @@
 
 from __future__ import annotations
 
-from collections.abc import Iterator, Mapping, Sequence
+import re
+from collections.abc import Mapping, Sequence
 from dataclasses import dataclass, field
 from typing import NamedTuple, Protocol
 
-from promises.scanning import Token, closing_of
+from promises.scanning import Token, Unreadable, closing_of
 
 BRACKETS = {"(": ")", "{": "}", "[": "]"}
 SIGNS = frozenset("→ × ↦ = | : [ ] ( ) { } , ; . @ _ λ ∀ let in do elim as record Type where ← pub data".split())
+CONSTRUCTORS = frozenset("Ok Err Some None true false tt yes no refl zero suc pos negsuc inl inr squash₁ [] ∷".split())
+"""Those that a pattern may name with no import."""
 
 
+NUMERAL = r"0[xob][0-9a-fA-F_]+|[1-9][0-9_]*|0"
 SELF = "self"
 """What a definition says in the place of its own name."""
 
@@ -43,6 +47,14 @@ class Scope(Protocol):
 
 
 @dataclass
+class Block:
+    """Lines of a `do` or a `where`: their column, and what is bound in the next one of them."""
+
+    column: int
+    names: dict[str, str]
+
+
+@dataclass
 class Level:
     """What is bound between two brackets."""
 
@@ -52,12 +64,11 @@ class Level:
     """What is bound in each branch of an `elim`."""
     later: dict[str, str] = field(default_factory=dict)
     """What is bound after the bracket."""
-    following: dict[str, str] = field(default_factory=dict)
-    """What is bound after the statement."""
     lets: list[dict[str, str]] = field(default_factory=list)
     """What is bound after the `in` of each open `let`."""
-    blocks: list[int] = field(default_factory=list)
-    """The columns of the open blocks of lines."""
+    blocks: list[Block] = field(default_factory=list)
+    products: set[str] = field(default_factory=set)
+    """What `×` binds, which ends before the next arrow: brackets have to say so."""
     is_opening: bool = False
     """The next token is the first of a block."""
 
@@ -92,7 +103,7 @@ class Term:
         if text in BRACKETS:
             return self.open(tokens, at)
         if text == self.level.closing:
-            self.close(text)
+            self.close(tokens, at)
         elif text == "|" and self.level.closing == "]":
             return self.branch(tokens, at)
         elif text == "λ":
@@ -100,12 +111,17 @@ class Term:
         elif text == "let":
             return self.let(tokens, at)
         elif text == "in" and self.level.lets:
-            self.level.names.update(self.level.lets.pop())
+            self.level.names = self.level.lets.pop()
             self.pieces.append(text)
         elif text in ("do", "where") and at + 1 < len(tokens):
-            self.level.blocks.append(tokens[at + 1].column)
+            self.level.blocks.append(Block(tokens[at + 1].column, dict(self.level.names)))
             self.level.is_opening = True
-            self.pieces += [text, *(self.scope.pieces("◌>>=◌") or () if text == "do" else ())]
+            operators = [self.scope.pieces(name) or () for name in ("◌>>=◌", "◌>>◌") if text == "do"]
+            self.pieces += [text, *(piece for pieces in operators for piece in pieces)]
+        elif text in ("→", "⊎", "↔") and self.level.products:
+            raise unclear(tokens[at], f"brackets have to say how far {' and '.join(sorted(self.level.products))} reaches")
+        elif text == ";" and self.level.blocks:
+            raise unclear(tokens[at], "a block has a statement on each line")
         elif text.startswith('"'):
             self.pieces.append(text)
         else:
@@ -115,29 +131,36 @@ class Term:
     def begin_line(self, tokens: Sequence[Token], at: int) -> int:
         """Ends the statement before this token if it begins another one, and answers the number of the token to go on with."""
         token, level = tokens[at], self.level
-        while level.blocks and token.is_first and token.column < level.blocks[-1]:
-            level.blocks.pop()
-        begins = level.is_opening or (token.is_first and token.column in level.blocks[-1:])
+        while level.blocks and token.is_first and token.column < level.blocks[-1].column:
+            level.names = level.blocks.pop().names
+            self.pieces.append("end")
+        begins = level.is_opening or (token.is_first and bool(level.blocks) and token.column == level.blocks[-1].column)
         level.is_opening = False
         if not begins:
             return at
         self.pieces.append(";;")
-        level.names.update(level.following)
+        level.names = dict(level.blocks[-1].names)
+        level.products.clear()
         return self.statement(tokens, at)
 
     def statement(self, tokens: Sequence[Token], at: int) -> int:
-        """Reads what a statement binds, up to the arrow after it, and reserves the name of a field or of a constructor."""
-        end = at + 1
+        """Reads what a statement binds, up to the arrow after it, and keeps the names of fields and of constructors as they are."""
+        end, block = at + 1, self.level.blocks[-1]
         while end < len(tokens) and not (tokens[end].is_first and tokens[end].column <= tokens[at].column):
             if tokens[end].text == "←":
                 outside = dict(self.level.names)
                 self.pattern(tokens[at:end])
-                self.level.following, self.level.names = self.level.names, outside
+                block.names, self.level.names = self.level.names, outside
                 return end
             end += 1
         named = at + (tokens[at].text == "pub")
-        if named + 1 < len(tokens) and tokens[named + 1].text == ":":
-            self.level.names[tokens[named].text] = f".{tokens[named].text}"
+        last = named
+        while last < len(tokens) and tokens[last].text not in SIGNS:
+            last += 1
+        if last < len(tokens) and tokens[last].text == ":":
+            own = {token.text: f".{token.text}" for token in tokens[named:last]}
+            block.names.update(own)
+            self.level.names.update(own)
         return at
 
     def open(self, tokens: Sequence[Token], at: int) -> int:
@@ -154,19 +177,25 @@ class Term:
         is_record = at > 0 and tokens[at - 1].text == "record"
         if end < len(tokens) and tokens[end].text == ":" and end > at + 1 and not is_record:
             self.level.later = {token.text: self.variable(token.text) for token in tokens[at + 1 : end]}
-            self.pieces += self.level.later.values()
+            # A caller may write the name of an implicit argument.
+            self.pieces += self.level.later.values() if text == "(" else (piece for pair in self.level.later.items() for piece in pair)
             return end
         return at + 1
 
-    def close(self, text: str) -> None:
+    def close(self, tokens: Sequence[Token], at: int) -> None:
         """Reads the bracket that closes the innermost one."""
         ended = self.levels.pop()
+        if ended.lets:
+            raise unclear(tokens[at], "a let without its in")
         self.level.names.update(ended.later)
-        self.pieces.append(text)
+        if ended.later and tokens[at + 1 : at + 2] and tokens[at + 1].text == "×":
+            self.level.products.update(ended.later)
+        self.pieces.append(tokens[at].text)
 
     def branch(self, tokens: Sequence[Token], at: int) -> int:
         """Reads the bar before a branch of an `elim`, and its pattern."""
         self.level.names = dict(self.level.base)
+        self.level.products.clear()
         self.pieces.append("|")
         return self.pattern_of_branch(tokens, at + 1)
 
@@ -190,6 +219,11 @@ class Term:
             if self.level.names.get(text) == SELF:
                 self.pieces.append(SELF)
                 at += 1
+            elif at > 0 and tokens[at - 1].text == "{" and self.binds(text) and not is_argument:
+                # An implicit argument is bound by its own name.
+                self.level.names[text] = self.variable(text)
+                self.pieces += [text, self.level.names[text]]
+                at += 1
             elif self.binds(text) and not is_argument and not (at + 1 < len(tokens) and tokens[at + 1].text.startswith(".")):
                 self.level.names[text] = self.variable(text)
                 self.pieces.append(self.level.names[text])
@@ -202,7 +236,8 @@ class Term:
 
     def binds(self, text: str) -> bool:
         """Whether a token of a pattern is a variable."""
-        return text not in SIGNS and not text[0].isdigit() and text[0] not in '".' and not self.scope.is_constructor(text)
+        is_name = text not in SIGNS and not text[0].isdigit() and text[0] not in '".'
+        return is_name and text not in CONSTRUCTORS and not self.scope.is_constructor(text)
 
     def binders(self, tokens: Sequence[Token], at: int) -> int:
         """Reads a λ and what it binds, up to the dot."""
@@ -226,14 +261,14 @@ class Term:
         return at
 
     def let(self, tokens: Sequence[Token], at: int) -> int:
-        """Reads what a `let` binds. It is bound from the `in` on."""
-        end = at + 1
-        while tokens[end].text not in ("=", ":"):
-            end += 1
-        found = {token.text: self.variable(token.text) for token in tokens[at + 1 : end] if self.binds(token.text)}
-        self.pieces += ["let", *(found.get(token.text, token.text) for token in tokens[at + 1 : end])]
-        self.level.lets.append(found)
-        return end
+        """Reads the name that a `let` binds. It is bound from the `in` on."""
+        name, sign = tokens[at + 1], tokens[at + 2].text
+        if not self.binds(name.text) or sign not in ("=", ":"):
+            raise unclear(name, "a let of a pattern")
+        found = self.variable(name.text)
+        self.pieces += ["let", found]
+        self.level.lets.append(self.level.names | {name.text: found})
+        return at + 2
 
     def name(self, tokens: Sequence[Token], at: int) -> int:
         """Reads a name, with what follows it in the module that it names, or a sign."""
@@ -244,6 +279,10 @@ class Term:
             self.pieces.append(text)
         elif text in self.level.names:
             self.pieces.append(self.level.names[text])
+        elif text in ("Rattle", "package") and follows.startswith("."):
+            raise unclear(tokens[at], "a path in a term: import the name")
+        elif re.fullmatch(NUMERAL, text):
+            self.pieces.append(str(int(text.replace("_", ""), 0)))
         elif follows.startswith(".") and (found := self.scope.member(text, follows[1:])):
             self.pieces += found
             return at + 2
@@ -252,6 +291,6 @@ class Term:
         return at + 1
 
 
-def named(pieces: Sequence[Piece]) -> Iterator[Reference]:
-    """The definitions that something speaks of."""
-    return (piece for piece in pieces if isinstance(piece, Reference))
+def unclear(token: Token, problem: str) -> Unreadable:
+    """The error of a term that this tool cannot read."""
+    return Unreadable(f"line {token.line}: {problem}")

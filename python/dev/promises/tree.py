@@ -4,11 +4,12 @@ from __future__ import annotations
 
 import re
 from collections import Counter, defaultdict
-from collections.abc import Iterable, Mapping
+from collections.abc import Callable, Iterable, Mapping, Sequence
 from functools import cached_property
 from pathlib import Path
+from typing import TypeVar
 
-from promises.definitions import File, Import, read_file
+from promises.definitions import MODULE, File, Import, read_file
 from promises.scanning import Unreadable
 from promises.sources import Clause, Item, Source, read_source
 from promises.terms import Piece, Reference
@@ -17,21 +18,35 @@ ROOTS = ("lib.rt", "main.rt")
 SRC = "src"
 
 
+Read = TypeVar("Read")
+
+
+def read_with(read: Callable[[str, str], Read], path: Path) -> Read:
+    """What a file has. If it ends where more has to follow, that is said of it."""
+    try:
+        return read(str(path), path.read_text("utf-8"))
+    except LookupError as error:
+        raise Unreadable(f"{path} has another form than this tool knows: {error}") from None
+
+
 class Crate:
     """The files of one crate."""
 
     def __init__(self, name: str, folder: Path) -> None:
         self.name = name
         src, specs = folder / "src", folder / "specs"
-        self.sources = {
-            path.relative_to(src).as_posix(): read_source(str(path), path.read_text("utf-8")) for path in sorted(src.rglob("*.rt"))
-        }
+        self.sources = {path.relative_to(src).as_posix(): read_with(read_source, path) for path in sorted(src.rglob("*.rt"))}
         paths = {path.relative_to(specs).with_suffix("").parts: path for path in sorted(specs.rglob("*.antt"))}
-        self.files = {".".join(parts): read_file(str(path), path.read_text("utf-8")) for parts, path in paths.items()}
-        declared = [(source, item) for source in self.sources.values() for item in source.items if item.kind != "impl" and item.name != "_"]
-        counted = Counter(item.name for _, item in declared)
+        self.files = {".".join(parts): read_with(read_file, path) for parts, path in paths.items()}
+        declared = [
+            (name, source, item)
+            for name, source in self.sources.items()
+            for item in source.items
+            if item.kind != "impl" and item.name != "_"
+        ]
+        counted = Counter(item.name for _, _, item in declared)
         # Of a name that several files have, each file has its own.
-        self.items = {item.name if counted[item.name] == 1 else f"{source.name} {item.name}": (source, item) for source, item in declared}
+        self.items = {item.name if counted[item.name] == 1 else f"{name} {item.name}": (source, item) for name, source, item in declared}
 
     @property
     def root(self) -> Source:
@@ -41,6 +56,12 @@ class Crate:
     @property
     def is_program(self) -> bool:
         return "main.rt" in self.sources
+
+    def is_open(self, source: Source) -> bool:
+        """Whether other crates reach the items of a file by the path of its module."""
+        parts = source_name(self, source).removesuffix(".rt").split("/")
+        above = [self.root, *(self.sources["/".join(parts[:count]) + ".rt"] for count in range(1, len(parts)))]
+        return source is self.root or all(part in one.public_modules for part, one in zip(parts, above, strict=True))
 
     @cached_property
     def exported(self) -> set[str]:
@@ -58,7 +79,14 @@ class Crate:
                 owner = item.name if item.kind == "trait" else owner_of(item)
                 for ghost in item.ghosts if item.kind in ("trait", "impl") else ():
                     found[f"{owner}.{ghost.name}"].append((source, item, ghost))
+                for name, value in item.associated.items():
+                    found[f"{owner}.{name}"].append((source, item, Clause("", name, value, {})))
         return found
+
+
+def source_name(crate: Crate, source: Source) -> str:
+    """The name of a file of src/."""
+    return next(name for name, one in crate.sources.items() if one is source)
 
 
 def owner_of(item: Item) -> str:
@@ -96,35 +124,45 @@ class Tree:
                 self.imported(line)
 
     def item(self, crate: str, name: str) -> Reference | None:
-        """The type, trait or constant that a crate has by a name, be it one of another crate."""
+        """The type, trait or constant that a crate gives by a name, be it one of another crate."""
         held = self.crates[crate]
         if name in held.items:
             return Reference(crate, SRC, name)
         for source in held.sources.values():
             path, is_public = source.uses.get(name, ((), False))
-            if is_public and path[0] in self.crates:
-                return self.item(path[0], path[-1])
+            if is_public and (found := self.at_path(crate, source, path)) is not None:
+                return found
         return None
 
     def member(self, item: Reference, name: str) -> Reference | None:
-        """The ghost member of a trait, or of an `impl` for a type."""
+        """The ghost member, or the constant, of a trait or of an `impl` for a type."""
         known = f"{item.name}.{name}"
         return Reference(item.crate, SRC, known) if known in self.crates[item.crate].members else None
 
     def used(self, crate: str, source: Source, name: str) -> Reference | None:
         """The type, trait or constant that a file of src/ has by a name."""
-        for known in (f"{source.name} {name}", name):
+        for known in (f"{source_name(self.crates[crate], source)} {name}", name):
             if known in self.crates[crate].items and self.crates[crate].items[known][0] is source:
                 return Reference(crate, SRC, known)
         path, _ = source.uses.get(name, ((), False))
-        if not path:
-            return None
-        home = crate if path[0] in ("crate", "super", "self") or self.is_module(crate, path[0]) else path[0]
-        return self.item(home, path[-1]) if home in self.crates else None
+        return self.at_path(crate, source, path) if path else None
 
-    def is_module(self, crate: str, name: str) -> bool:
-        """Whether a crate has a module with this name."""
-        return any(file.split("/")[0].removesuffix(".rt") == name for file in self.crates[crate].sources)
+    def at_path(self, crate: str, source: Source, path: Sequence[str]) -> Reference | None:
+        """The type, trait or constant at a path, as a file of src/ writes it."""
+        first, *rest = path
+        if not rest:
+            return self.used(crate, source, first)
+        if first in source.uses and source.uses[first][0] != tuple(path):
+            return self.at_path(crate, source, (*source.uses[first][0], *rest))
+        is_own = first in ("crate", "super", "self") or any(
+            name.split("/")[0] in (first, f"{first}.rt") for name in self.crates[crate].sources
+        )
+        home = crate if is_own else first
+        if home not in self.crates:
+            return None
+        modules = [part for part in (path if is_own else rest)[:-1] if part not in ("crate", "super", "self")]
+        known = f"{'/'.join(modules)}.rt {path[-1]}"
+        return Reference(home, SRC, known) if known in self.crates[home].items else self.item(home, path[-1])
 
     def imported(self, line: Import, name: str | None = None) -> tuple[Piece, ...]:
         """What a name in a file of specs/ is, or what is declared of src/."""
@@ -150,10 +188,13 @@ class Tree:
             known = f"{'/'.join(parts[:-1])}.rt {name}"
             found = Reference(path[1], SRC, known) if known in self.crates[path[1]].items else self.item(path[1], name)
         else:
-            found = self.item(path[1], parts[-2] if parts[-1] == "TheVariants" else parts[-1])
+            modules = parts[:-2] if parts[-1] == "TheVariants" else parts[:-1]
+            kind = parts[-2] if parts[-1] == "TheVariants" else parts[-1]
+            known = f"{'/'.join(modules)}.rt {kind}"
+            found = Reference(path[1], SRC, known) if known in self.crates[path[1]].items else self.item(path[1], kind)
         if found is None:
             raise Unreadable(f"{full} is imported, and not declared")
-        if name in (found.name, parts[-1]) or parts[-1] == "TheConstants":
+        if parts[-1] == "TheConstants" or name == parts[-1]:
             return (found,)
         return (found, f".{name}")
 
@@ -168,9 +209,13 @@ class Tree:
         return None
 
 
-def parts_of(names: Iterable[str]) -> dict[str, str]:
-    """The operators among some names, by each of the signs that they are made of."""
-    return {part: name for name in names if "◌" in name for part in name.split("◌") if part}
+def parts_of(names: Iterable[str]) -> dict[str, list[str]]:
+    """The operators among some names, by each of the signs that they are made of: two operators may share a sign."""
+    found: defaultdict[str, list[str]] = defaultdict(list)
+    for name in sorted(names):
+        for part in {part for part in name.split("◌") if part} if "◌" in name else ():
+            found[part].append(name)
+    return found
 
 
 class FileScope:
@@ -182,17 +227,19 @@ class FileScope:
         self.parts = parts_of((*self.file.imports, *self.file.definitions))
 
     def pieces(self, name: str) -> tuple[Piece, ...] | None:
-        """What a name is; None if it is nothing that the file imports or defines."""
-        name = self.parts.get(name.strip("◌"), name)
-        found = self.tree.defined(self.crate, self.module, self.file, name)
-        if found is None and name in self.file.imports:
-            return self.tree.imported(self.file.imports[name])
-        return found
+        """What a name is; None if it is nothing that the file imports or defines. A sign is all operators that have it."""
+        found: list[Piece] = []
+        for one in [name] if name in self.file.definitions else self.parts.get(name.strip("◌"), [name]):
+            known = self.tree.defined(self.crate, self.module, self.file, one)
+            if known is None and one in self.file.imports:
+                known = self.tree.imported(self.file.imports[one])
+            found += known or ()
+        return tuple(found) or None
 
     def member(self, name: str, member: str) -> tuple[Piece, ...] | None:
         """What a name in a module is; None if there is no such module."""
-        line = self.file.imports.get(name)
-        return self.tree.imported(line, member) if line is not None and line.name is None else None
+        line = self.file.imports.get(MODULE + name)
+        return None if line is None else self.tree.imported(line, member)
 
     def is_constructor(self, name: str) -> bool:
         """Whether a name in a pattern is a constructor and binds no variable."""
@@ -213,9 +260,8 @@ class ClauseScope:
         """What a name is; None if it is nothing that the file knows."""
         if name.startswith("⟦<"):
             return tuple(piece for word in re.findall(r"\w+", name) for piece in self.pieces(word) or (word,))
-        name = self.parts.get(name.strip("◌"), name)
-        if name in self.imports:
-            return self.tree.imported(self.imports[name])
+        if operators := [one for one in self.parts.get(name.strip("◌"), [name]) if one in self.imports]:
+            return tuple(piece for one in operators for piece in self.tree.imported(self.imports[one]))
         if name == "Self" and self.owner is not None:
             return (self.owner,)
         found = self.tree.used(self.crate, self.source, name)
@@ -223,11 +269,15 @@ class ClauseScope:
             found = self.tree.member(self.owner, name)
         return None if found is None else (found,)
 
+    def at_path(self, path: Sequence[str]) -> tuple[Piece, ...] | None:
+        """What a path of src/ is; None if it is nothing of this repository."""
+        found = self.tree.at_path(self.crate, self.source, path)
+        return None if found is None else (found,)
+
     def member(self, name: str, member: str) -> tuple[Piece, ...] | None:
         """What a name in a module is, or a ghost member of a type; None if it is neither."""
-        line = self.imports.get(name)
-        if line is not None and line.name is None:
-            return self.tree.imported(line, member)
+        if MODULE + name in self.imports:
+            return self.tree.imported(self.imports[MODULE + name], member)
         found = self.pieces(name)
         if found is None or not isinstance(found[0], Reference):
             return None
