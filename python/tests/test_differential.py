@@ -470,9 +470,9 @@ class Runs(unittest.TestCase):
         return str(path)
 
     def test_some_cases_without_a_difference(self) -> None:
-        status, said = self.differential("--count", "300", "2", "7")
+        status, said = self.differential("--count", "50", "2", "7")
         self.assertEqual(status, 0, said)
-        self.assertRegex(said, r"(?m)^3\d\d cases, 0 differences, seed 7,")
+        self.assertRegex(said, r"(?m)^\d\d+ cases, 0 differences, seed 7,")
 
     def test_evidence_without_a_difference(self) -> None:
         status, said = self.differential("--evidence", "--count", "100", "2", "8")
@@ -552,9 +552,9 @@ class Runs(unittest.TestCase):
 
     @unittest.skipUnless(library_path(), "no library")
     def test_some_cases_of_a_library_without_a_difference(self) -> None:
-        status, said = self.differential("--library", library_path() or "", "--count", "300", "2", "7")
+        status, said = self.differential("--library", library_path() or "", "--count", "50", "2", "7")
         self.assertEqual(status, 0, said)
-        self.assertRegex(said, r"(?m)^3\d\d cases, 0 differences, seed 7, \d+ cases a second, \d\d+ of them by the library too$")
+        self.assertRegex(said, r"(?m)^\d\d+ cases, 0 differences, seed 7, \d+ cases a second, \d\d+ of them by the library too$")
 
     @unittest.skipUnless(shutil.which("cc"), "no cc")
     def test_a_library_that_lies_is_found(self) -> None:

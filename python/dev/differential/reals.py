@@ -9,6 +9,7 @@ from __future__ import annotations
 import importlib
 import importlib.util
 import re
+from collections import Counter
 from collections.abc import Iterable, Sequence
 from dataclasses import dataclass
 from typing import Any
@@ -21,7 +22,7 @@ from reference import Outcome
 from tml.statuses import BASE_RELATIONS, RELATIONS, TmlStatus
 
 IS_THERE = importlib.util.find_spec("z3") is not None
-MOST_INTERVALS = 12
+MOST_INTERVALS, MOST_LINKS = 12, 60
 COMMANDS = (b"solve", b"ask", b"relations", b"possible", b"matrix", b"reduce")
 INVERSE_OF = {inverse: relation for relation, inverse in INVERSE.items() if inverse != relation}
 ENDS = ("eventInstanceID", "timeID"), ("relatedToEventInstance", "relatedToTime")
@@ -44,6 +45,9 @@ class Reals:
         self.points: dict[str, tuple[Any, Any]] = {}
         self.given: list[Any] = []
         self.links: list[Link] = []
+        self.said: dict[Link, Any] = {}
+        """What links say, since z3 takes long to make it."""
+        self.solver: Any = None
         for what, name, attributes in nodes:
             if what == "start":
                 self.take(name, dict(attributes))
@@ -69,6 +73,12 @@ class Reals:
         return start, end
 
     def says(self, link: Link) -> Any:
+        """What a link says of the numbers."""
+        if link not in self.said:
+            self.said[link] = self.made(link)
+        return self.said[link]
+
+    def made(self, link: Link) -> Any:
         """What a link says of the numbers, as the table of relations has it."""
         if link.relation in INVERSE_OF:
             return self.says(Link(link.right, INVERSE_OF[link.relation], link.left))
@@ -85,9 +95,20 @@ class Reals:
         solver.add(*self.given, *map(self.says, links), *more)
         return bool(solver.check() == self.z3.sat)
 
+    def can_be_with_all(self, more: Any) -> bool:
+        """Whether some numbers make the dates, all links and more true. One solver is asked, so that it is told the links once."""
+        if self.solver is None:
+            self.solver = self.z3.Solver()
+            self.solver.add(*self.given, *map(self.says, self.links))
+        self.solver.push()
+        self.solver.add(more)
+        found = self.solver.check()
+        self.solver.pop()
+        return bool(found == self.z3.sat)
+
     def follows(self, link: Link) -> bool:
         """Whether a relation is true of all numbers that fit."""
-        return not self.can_be(self.links, self.z3.Not(self.says(link)))
+        return not self.can_be_with_all(self.z3.Not(self.says(link)))
 
     def reduced(self) -> list[int]:
         """The numbers of the links without each that is true of all numbers that fit with the others that are left."""
@@ -100,7 +121,13 @@ class Reals:
 
     def possible(self, first: str, second: str) -> list[str]:
         """The base relations that are true of some numbers that fit."""
-        return [relation for relation in BASE_RELATIONS if self.can_be([*self.links, Link(first, relation, second)])]
+        return [relation for relation in BASE_RELATIONS if self.can_be_with_all(self.says(Link(first, relation, second)))]
+
+
+def is_too_large(nodes: Iterable[Node]) -> bool:
+    """Whether z3 would take very long for a document."""
+    names = Counter(name for what, name, _ in nodes if what == "start")
+    return names["MAKEINSTANCE"] + names["TIMEX3"] > MOST_INTERVALS or names["TLINK"] > MOST_LINKS
 
 
 def complaint(case: Case, outcome: Outcome) -> str | None:
@@ -109,7 +136,7 @@ def complaint(case: Case, outcome: Outcome) -> str | None:
         return None
     document = case.files[case.words[1]]
     nodes = None if DECODED.search(document) else tree_of(document)
-    if nodes is None or sum(name in ("MAKEINSTANCE", "TIMEX3") for what, name, _ in nodes if what == "start") > MOST_INTERVALS:
+    if nodes is None or is_too_large(nodes):
         return None
     reals = Reals(nodes)
     if outcome.status == TmlStatus.CLASH:
