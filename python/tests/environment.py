@@ -48,6 +48,8 @@ LIMITS = {
 def run_tests(arguments: Sequence[str]) -> int:
     """Runs all_tests.py with these arguments in an environment of its own, and answers its status."""
     signal.signal(signal.SIGTERM, end)
+    # If the caller ignores it, the status of the tests is lost.
+    signal.signal(signal.SIGCHLD, signal.SIG_DFL)
     os.umask(0o022)
     folder = Path(tempfile.mkdtemp(prefix="tests-", dir="/tmp"))
     try:
