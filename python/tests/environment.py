@@ -79,14 +79,12 @@ def end(number: int, _: object) -> NoReturn:
 
 
 def interpreter() -> str:
-    """Debian's Python where it is there and new enough, and else this one."""
-    try:
-        is_new = subprocess.run([DEBIAN_PYTHON, "-I", "-S", "-c", NEW_ENOUGH], check=False).returncode == 0
-    except OSError:
-        is_new = False
-    if not is_new and sys.version_info < (3, 11):
-        sys.exit("tests: Python 3.11 is needed")
-    return DEBIAN_PYTHON if is_new else sys.executable
+    """Debian's Python if it is there and new enough, else this one, else that of the caller."""
+    for python in (DEBIAN_PYTHON, sys.executable, shutil.which("python3")):
+        if python is not None and os.access(python, os.X_OK):
+            if subprocess.run([python, "-I", "-S", "-c", NEW_ENOUGH], check=False).returncode == 0:
+                return python
+    sys.exit("tests: Python 3.11 is needed")
 
 
 def prepared(folder: Path, python: str) -> dict[str, str]:
