@@ -109,6 +109,8 @@ def prepared(folder: Path, python: str) -> dict[str, str]:
         "LC_ALL": "C.UTF-8",
         "PATH": f"{programs}:{PROGRAMS}",
         "PYTHONDONTWRITEBYTECODE": "1",
+        # Sets have the same order in each run.
+        "PYTHONHASHSEED": "0",
         "TMPDIR": str(temporary),
         "TZ": "UTC",
     }
