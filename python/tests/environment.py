@@ -51,7 +51,7 @@ def run_tests(arguments: Sequence[str]) -> int:
     # If the caller ignores it, the status of the tests is lost.
     signal.signal(signal.SIGCHLD, signal.SIG_DFL)
     os.umask(0o022)
-    folder = Path(tempfile.mkdtemp(prefix="tests-", dir="/tmp"))
+    folder = Path(tempfile.mkdtemp(prefix="tests-", dir="/tmp")).resolve()
     try:
         command = [interpreter(), str(TESTS / "all_tests.py"), *arguments]
         return status_of(command, prepared(folder, command[0]))
