@@ -48,8 +48,10 @@ LIMITS = {
 def run_tests(arguments: Sequence[str]) -> int:
     """Runs all_tests.py with these arguments in an environment of its own, and answers its status."""
     signal.signal(signal.SIGTERM, end)
+    # If the caller ignores it, the status of the tests is lost.
+    signal.signal(signal.SIGCHLD, signal.SIG_DFL)
     os.umask(0o022)
-    folder = Path(tempfile.mkdtemp(prefix="tests-", dir="/tmp"))
+    folder = Path(tempfile.mkdtemp(prefix="tests-", dir="/tmp")).resolve()
     try:
         command = [interpreter(), str(TESTS / "all_tests.py"), *arguments]
         return status_of(command, prepared(folder, command[0]))
@@ -77,14 +79,12 @@ def end(number: int, _: object) -> NoReturn:
 
 
 def interpreter() -> str:
-    """Debian's Python where it is there and new enough, and else this one."""
-    try:
-        is_new = subprocess.run([DEBIAN_PYTHON, "-I", "-S", "-c", NEW_ENOUGH], check=False).returncode == 0
-    except OSError:
-        is_new = False
-    if not is_new and sys.version_info < (3, 11):
-        sys.exit("tests: Python 3.11 is needed")
-    return DEBIAN_PYTHON if is_new else sys.executable
+    """Debian's Python if it is there and new enough, else this one, else that of the caller."""
+    for python in (DEBIAN_PYTHON, sys.executable, shutil.which("python3")):
+        if python is not None and os.access(python, os.X_OK):
+            if subprocess.run([python, "-I", "-S", "-c", NEW_ENOUGH], check=False).returncode == 0:
+                return python
+    sys.exit("tests: Python 3.11 is needed")
 
 
 def prepared(folder: Path, python: str) -> dict[str, str]:
@@ -109,6 +109,8 @@ def prepared(folder: Path, python: str) -> dict[str, str]:
         "LC_ALL": "C.UTF-8",
         "PATH": f"{programs}:{PROGRAMS}",
         "PYTHONDONTWRITEBYTECODE": "1",
+        # Sets have the same order in each run.
+        "PYTHONHASHSEED": "0",
         "TMPDIR": str(temporary),
         "TZ": "UTC",
     }

@@ -2,6 +2,7 @@
 
 import os
 import re
+import shutil
 import subprocess
 import sys
 import tempfile
@@ -14,7 +15,7 @@ import tml
 import tml_corpus
 from corpus import COMPANION, SOURCES, TML, TOP
 from installing import CAN_INSTALL, CANNOT, install, of_the_clone
-from processes import WITH_PACKAGES, with_own_bytecode
+from processes import PATIENCE, WITH_PACKAGES, with_own_bytecode
 
 SAMPLE = os.path.join(TOP, "samples", "rates.xml")
 
@@ -53,13 +54,14 @@ class Installed(unittest.TestCase):
         cls.addClassCleanup(held.cleanup)
         cls.folder = Path(held.name)
         cls.target = cls.folder / "target"
+        shutil.copy(SAMPLE, cls.folder)
         install(cls.target)
 
     def run_words(self, *words: str) -> tuple[int, str, str]:
         """The status and both streams of a program that finds the packages where they are installed, and `tml` by its variable."""
         others = {name: value for name, value in with_own_bytecode().items() if name != "TML_LIBRARY"}
         variables = {**others, "PYTHONPATH": str(self.target), "TML": os.path.abspath(TML)}
-        done = subprocess.run(words, cwd=self.folder, env=variables, capture_output=True, text=True, check=False, timeout=120)
+        done = subprocess.run(words, cwd=self.folder, env=variables, capture_output=True, text=True, check=False, timeout=PATIENCE)
         return done.returncode, done.stdout, done.stderr
 
     def run_script(self, script: str) -> tuple[int, str, str]:
@@ -89,7 +91,7 @@ class Installed(unittest.TestCase):
 
     @unittest.skipUnless(os.access(TML, os.X_OK), f"no program {TML}: build it as README.md says, or name one by TML=PROGRAM")
     def test_a_sample_is_checked(self) -> None:
-        words = (str(self.target / "bin" / "tml-corpus"), "check", "--lint", "--clashes", "--tml", os.path.abspath(TML), SAMPLE)
+        words = (str(self.target / "bin" / "tml-corpus"), "check", "--lint", "--clashes", "--tml", os.path.abspath(TML), "rates.xml")
         self.assertEqual(self.run_words(*words), (0, "1 file: 1 accepted, 0 with a clash, 0 with a fault, 0 not judged\n", ""))
 
     @unittest.skipUnless(os.access(TML, os.X_OK), f"no program {TML}: build it as README.md says, or name one by TML=PROGRAM")

@@ -11,7 +11,7 @@ import unittest
 from pathlib import Path
 
 from corpus import TML, TOOLS, TOP, match_in, text_at
-from processes import BARE
+from processes import BARE, PATIENCE
 
 TML_VERIFY = os.path.abspath(os.environ.get("TML_VERIFY") or os.path.join(TOP, "crates", "tml_verify", "out", "tml_verify"))
 DOCS = "usr/share/doc/tml-timeml"
@@ -76,7 +76,7 @@ class Package(unittest.TestCase):
             capture_output=True,
             text=True,
             check=False,
-            timeout=120,
+            timeout=PATIENCE,
             umask=umask,
         )
 
@@ -89,10 +89,10 @@ class Package(unittest.TestCase):
             [*start, os.path.join(path, program), *rest],
             input=given,
             cwd=os.path.join(self.root, DOCS),
-            env={"PATH": path, "LC_ALL": "C.UTF-8", "PYTHONDONTWRITEBYTECODE": "1"},
+            env={"PATH": path, "HOME": self.root, "LC_ALL": "C.UTF-8", "PYTHONDONTWRITEBYTECODE": "1"},
             stdout=subprocess.PIPE,
             check=False,
-            timeout=120,
+            timeout=PATIENCE,
         )
         return done.returncode, done.stdout.decode()
 
@@ -173,7 +173,7 @@ class Package(unittest.TestCase):
     def test_python_finds_the_package_tml(self) -> None:
         words = [*BARE, "-c", "import tml.library, tml.process; print(tml.__file__)"]
         variables = {"PYTHONPATH": os.path.join(self.root, IMPORTED), "PYTHONDONTWRITEBYTECODE": "1"}
-        done = subprocess.run(words, cwd=self.folder, env=variables, capture_output=True, text=True, check=False, timeout=120)
+        done = subprocess.run(words, cwd=self.folder, env=variables, capture_output=True, text=True, check=False, timeout=PATIENCE)
         self.assertEqual((done.stdout, done.stderr), (os.path.join(self.root, IMPORTED, "tml/__init__.py\n"), ""))
         self.assertEqual(os.readlink(os.path.join(self.root, IMPORTED, "tml")), f"../../../share/{os.path.basename(SHARE)}/python/src/tml")
 

@@ -3,6 +3,7 @@
 import importlib.util
 import os
 import re
+import shutil
 import subprocess
 import sys
 import tempfile
@@ -369,11 +370,13 @@ class Examples(unittest.TestCase):
                 self.assertEqual(self.ran(source), printed)
 
     def ran(self, source: str) -> str:
-        """What an example prints."""
+        """What an example prints, in a folder with a copy of the samples."""
         found = {"TML": TML, **({"TML_LIBRARY": library_path()} if os.path.isfile(library_path()) else {})}
         environment = {**with_own_bytecode(), **found, "PYTHONPATH": SOURCES}
         words = [*WITH_PACKAGES, "-c", source]
-        done = subprocess.run(words, cwd=TOP, env=environment, capture_output=True, text=True, check=False, timeout=PATIENCE)
+        with tempfile.TemporaryDirectory() as folder:
+            shutil.copytree(SAMPLES, Path(folder, "samples"))
+            done = subprocess.run(words, cwd=folder, env=environment, capture_output=True, text=True, check=False, timeout=PATIENCE)
         self.assertEqual((done.stderr, done.returncode), ("", 0))
         return done.stdout
 

@@ -4,8 +4,8 @@
     tools/gate-times table LOG [N]         prints the processor time of the N slowest crates: proof, tests, edits that must fail
     tools/gate-times slowest N CRATE..     prints the N slowest functions and files of lemmas of these crates
 
-The log has a JSON object a line. `rt ci` starts the prover once for each proof, each crate's tests and each edit. `watch` reads four
-times a second in /proc which of them run, and what each has used. `slowest` checks each crate once more from nothing, over the
+The log has a JSON object a line. `rt ci` starts the prover once for each proof, each crate's tests and each edit. `watch` reads once
+a second in /proc which of them run, and what each has used. `slowest` checks each crate once more from nothing, over the
 libraries that `rt ci` left in crates/*/out, with work kept in a folder: the prover writes a file there for each module that it has
 checked, so its time is the processor time since the file before. The modules X.Lts, X.Proof and X.Tie are the proof of a function X.
 """
@@ -38,7 +38,7 @@ from typing import NamedTuple
 TOP = Path(__file__).resolve().parents[3]
 PART_OF_PROOF = re.compile(r"\.(Lts|Proof|Tie|Reads|Code|Mir|Statement|Met|Key|TheLink|Symbol|Borrows)(\..*)?$")
 PROVER = "rattle"
-INTERVAL = 0.25
+INTERVAL = 1.0
 """How many seconds `watch` waits before it looks again."""
 
 
