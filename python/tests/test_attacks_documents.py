@@ -129,8 +129,9 @@ DOCUMENTS: dict[str, tuple[str, int, Callable[[int], bytes]]] = {
 
 PARTS = (8, 4)
 """How many times as many bytes as two smaller documents the whole one has; the second has twice as many as the first."""
-SECONDS, MEBIBYTES = 30, 400
-"""What a command may take. The aim is 5 seconds of a machine with nothing else to do; this is processor time, with room for a busy one."""
+SECONDS, MEBIBYTES = 75, 400
+"""What a command may take. The aim is 5 seconds of processor time. A busy machine, whose processors share their units, takes up to three
+times as long, and this leaves five times as much as that."""
 
 
 def is_shown_by(less: Ended, more: Ended) -> bool:

@@ -15,6 +15,7 @@ from unittest import mock
 
 import tml
 from corpus import SOURCES, TML, TOP
+from processes import children_of
 
 SAMPLES = os.path.join(TOP, "samples")
 FOUND = {"TML": TML, "TML_LIBRARY": ""}
@@ -107,11 +108,12 @@ class Folders(unittest.TestCase):
             list(tml.folder(wrong))
 
     def test_whoever_stops_early_leaves_no_process(self) -> None:
+        before = children_of(os.getpid())
         asked = tml.folder([os.path.join(SAMPLES, "rates.xml")] * 500, tml.check, jobs=2)
         self.assertIsInstance(next(asked).answer, tml.Accepted)
+        self.assertEqual(len(children_of(os.getpid()) - before), 2)
         del asked
-        child = subprocess.run(["ps", "--ppid", str(os.getpid()), "-o", "args="], capture_output=True, text=True, check=False)
-        self.assertNotIn("answer_all", child.stdout)
+        self.assertEqual(children_of(os.getpid()), before)
 
     def test_a_program_without_a_guard(self) -> None:
         program = self.folder / "program.py"
