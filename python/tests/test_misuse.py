@@ -9,6 +9,7 @@ import pydoc
 import shutil
 import subprocess
 import sys
+import tempfile
 import unittest
 from collections.abc import Callable
 from pathlib import Path
@@ -134,7 +135,8 @@ class Misuse(unittest.TestCase):
             self.assertNotEqual(changed, whole)
             found = tml.expect(tml.check(changed, by=self.by), tml.Fault)
             done = subprocess.run(
-                [*BARE, os.path.join(TOOLS, "tml-corpus"), "check", "--tml", TML, "-"],
+                [*BARE, os.path.join(TOOLS, "tml-corpus"), "check", "--tml", os.path.abspath(TML), "-"],
+                cwd=tempfile.gettempdir(),
                 input=changed,
                 capture_output=True,
                 check=False,
