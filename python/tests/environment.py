@@ -1,6 +1,6 @@
 """The environment of a run of `tools/tests`: the same for every caller, so that the verdict depends on the tree alone.
 
-The tests run in a new process with Debian's Python where there is one, with its own temporary and home folder, and with none of the
+The tests run in a new process with Debian's Python if there is one, with their own temporary and home folder, and with none of the
 caller's variables except those that name the programs under test. This module starts that process, in whatever Python the caller has, so
 it imports the standard library alone.
 """
@@ -28,7 +28,7 @@ DEBIAN_PYTHON = "/usr/bin/python3"
 NEW_ENOUGH = "import sys; sys.exit(sys.version_info < (3, 11))"
 
 PROGRAMS = "/usr/local/sbin:/usr/local/bin:/usr/sbin:/usr/bin:/sbin:/bin"
-"""Where programs are looked for."""
+"""The folders in which the tests find programs."""
 
 NAMED = ("TML", "TML_LIBRARY", "TML_ROWS", "TML_VERIFY", "TML_ARCHIVE")
 """The variables of the caller that are kept: each names a file that is tested."""
