@@ -8,6 +8,7 @@ import os
 import signal
 import time
 import unittest
+from functools import partial
 
 from attacks import COMMANDS, AttackTest
 from corpus import CLASH, TML, document
@@ -24,6 +25,11 @@ PROGRAMS = (
     "echo fault 10 BadValue 0; exit 1",
 )
 """Programs that are not `tml`."""
+
+
+def has_ended(number: int) -> bool:
+    """Whether a process has ended."""
+    return not is_running(number)
 
 
 class Programs(AttackTest):
@@ -87,7 +93,7 @@ class Programs(AttackTest):
 
     def test_a_program_that_hangs_is_ended_with_the_second_interruption(self) -> None:
         fake = self.fake(f'echo $$ >> "{self.path("asked")}"\ncat >/dev/null; sleep 300')
-        for command in (COMMANDS[0], COMMANDS[4], COMMANDS[6], COMMANDS[7]):
+        for command in (COMMANDS[0], COMMANDS[4], COMMANDS[7]):
             with self.subTest(command):
                 if os.path.exists(self.path("asked")):
                     os.unlink(self.path("asked"))
@@ -104,12 +110,27 @@ class Programs(AttackTest):
                 asked = [int(number) for number in self.read_text("asked").split()]
                 until(lambda: not any(map(is_running, asked)), 30)
 
-    def test_tml_edit_ends_with_the_first_interruption(self) -> None:
-        child = self.begin(COMMANDS[8], tml=self.fake(f'echo $$ > "{self.path("asked")}"\nsleep 300'))
-        until(lambda: os.path.exists(self.path("asked")), 30)
-        time.sleep(0.2)
-        child.send_signal(signal.SIGINT)
-        self.assertEqual((child.communicate(timeout=60), child.returncode), ((b"", b""), 130))
+    def test_a_program_with_nothing_to_report_ends_with_the_first_interruption(self) -> None:
+        for command in (COMMANDS[6], COMMANDS[8]):
+            with self.subTest(command):
+                child = self.begin(command, tml=self.fake(f'echo $$ > "{self.path("asked")}"\nsleep 300'))
+                until(lambda: os.path.exists(self.path("asked")) and self.read_text("asked"), 30)
+                child.send_signal(signal.SIGINT)
+                said = f"{command.split()[0]}: interrupted\n".encode()
+                self.assertEqual((child.communicate(timeout=60), child.returncode), ((b"", said), 130))
+                asked = int(self.taken("asked"))
+                until(partial(has_ended, asked), 30)
+
+    def test_a_program_that_hangs_ends_with_what_is_ended_from_outside(self) -> None:
+        fake = self.fake(f'echo $$ >> "{self.path("asked")}"\ncat >/dev/null; sleep 300')
+        for number, command in ((signal.SIGTERM, COMMANDS[6]), (signal.SIGHUP, COMMANDS[7]), (signal.SIGTERM, COMMANDS[8])):
+            with self.subTest(command):
+                child = self.begin(command, tml=fake)
+                until(lambda: os.path.exists(self.path("asked")) and self.read_text("asked"), 30)
+                child.send_signal(number)
+                self.assertEqual((child.communicate(timeout=60), child.returncode), ((b"", b""), -number))
+                asked = int(self.taken("asked"))
+                until(partial(has_ended, asked), 30)
 
 
 if __name__ == "__main__":

@@ -300,15 +300,13 @@ class Folders(unittest.TestCase):
         self.folder = held.name
 
     def test_a_file_is_written_whole_or_not_at_all(self) -> None:
-        from tml_corpus.files.replacing import written
+        from tml_corpus.files.replacing import replace_file
 
         target = os.path.join(self.folder, "a")
-        with written(target) as file:
-            file.write(b"one")
-        for problem in (OSError, KeyboardInterrupt):
-            with self.assertRaises(problem), written(target) as file:
-                file.write(b"two")
-                raise problem
+        replace_file(target, b"one")
+        for problem, raised in ((OSError, CannotRun), (KeyboardInterrupt, KeyboardInterrupt)):
+            with self.assertRaises(raised), mock.patch.object(os, "replace", side_effect=problem):
+                replace_file(target, b"two")
         self.assertEqual(Path(target).read_bytes(), b"one")
         self.assertEqual(os.listdir(self.folder), ["a"])
 
@@ -394,7 +392,7 @@ class Project(unittest.TestCase):
             module, function = place.split(":")
             script = os.path.join(TOOLS, name if name in ("tml-corpus", "tml-edit") else name.removeprefix("tml-"))
             with self.subTest(name), open(script, encoding="utf-8") as file:
-                self.assertIn(f"\nfrom {module} import {function}\n", file.read())
+                self.assertRegex(file.read(), rf"\n    from {re.escape(module)} import {function}\n")
                 self.assertEqual(function, os.path.basename(script).replace("-", "_"))
                 said = subprocess.run([*BARE, script, "--version"], capture_output=True, text=True, check=True).stdout
                 self.assertEqual(said, f"{os.path.basename(script)} {project['version']}\n")

@@ -56,7 +56,11 @@ class Starts:
 STARTS = Starts()
 
 
-class CannotRun(Exception):
+class Expected(Exception):
+    """What the code expects to go wrong. Its text says all that a user has to know."""
+
+
+class CannotRun(Expected):
     """A program could not be started, took too long, printed too much, or answered what it never should."""
 
 

@@ -17,10 +17,13 @@ import time
 from collections import deque
 from collections.abc import Callable, Iterator, Sequence
 from contextlib import suppress
+from functools import partial
 from typing import Any, Generic, NoReturn, TypeVar
 
+from tml.attempts import attempted
 from tml.running import CannotRun, end_all
 
+from ..command_line.statuses import ENDED
 from ..files.finding import reason
 from ..files.writing import WRITING
 from .room import Room, SharedLock
@@ -100,16 +103,17 @@ def in_order(
     items: Sequence[Item],
     workers: int,
     stop: Interruption,
-    lost: Callable[[Item], Result],
+    failed: Callable[[Item, str], Result],
     prepare: Callable[[], None] = nothing,
 ) -> Iterator[Result]:
     """The results of the items in their order. After an interruption no item is begun; what was begun is still reported.
 
-    Where a process is ended from outside, as where it is out of memory, the items that it had are begun again one at a time, with
-    nothing beside them. The result of one that ends its process again is made by `lost`.
+    The result of an item at which the work raises anything is made by `failed`, of the item and the cause. Where a process is ended from
+    outside, as where it is out of memory, the items that it had are begun again one at a time, with nothing beside them. One that ends its
+    process again has failed too.
     """
     groups: Groups[Result] = Groups(len(items), workers)
-    with Crew(work, items, prepare) as crew:
+    with Crew(work, items, failed, prepare) as crew:
         crew.grow(min(workers, len(items)))
         while True:
             if not stop.happened.is_set():
@@ -118,7 +122,7 @@ def in_order(
             if not groups.go_on(stop.happened.is_set()):
                 return
             for group in crew.take(groups):
-                groups.break_up(group, lambda number: lost(items[number]))
+                groups.break_up(group, lambda number: failed(items[number], ENDED))
 
 
 class HasEnded(Exception):
@@ -263,8 +267,10 @@ class Worker(Generic[Result]):
 class Crew(Generic[Item, Result]):
     """The processes that do some work. They leave Ctrl-C to the program, and end where it is no more: the pipe that it holds is closed."""
 
-    def __init__(self, work: Callable[[Item], Result], items: Sequence[Item], prepare: Callable[[], None]) -> None:
-        self.work, self.items, self.prepare = work, items, prepare
+    def __init__(
+        self, work: Callable[[Item], Result], items: Sequence[Item], failed: Callable[[Item, str], Result], prepare: Callable[[], None]
+    ) -> None:
+        self.work, self.items, self.failed, self.prepare = work, items, failed, prepare
         self.starting: dict[int, Worker[Result]] = {}
         """Those that have not said yet that they are ready."""
         self.idle: list[Worker[Result]] = []
@@ -340,7 +346,7 @@ class Crew(Generic[Item, Result]):
                 os.close(handle)
             prepare_worker(self.watched, self.lock)
             os.write(answers, READY)
-            answer_all(told, answers, self.work, self.items, self.prepare)
+            answer_all(told, answers, self.work, self.items, self.failed, self.prepare)
         finally:
             os._exit(1)
 
@@ -421,7 +427,14 @@ def prepare_worker(watched: int, lock: SharedLock) -> None:
     threading.Thread(target=watch, daemon=True).start()
 
 
-def answer_all(told: int, answers: int, work: Callable[[Any], Any], items: Sequence[Any], prepare: Callable[[], None]) -> None:
+def answer_all(
+    told: int,
+    answers: int,
+    work: Callable[[Any], Any],
+    items: Sequence[Any],
+    failed: Callable[[Any, str], Any],
+    prepare: Callable[[], None],
+) -> None:
     """Answers of all items that a process is told, until there are no more."""
     problem: Exception | None = None
     try:
@@ -433,10 +446,13 @@ def answer_all(told: int, answers: int, work: Callable[[Any], Any], items: Seque
         try:
             if problem is not None:
                 raise problem
-            results, seconds = do_group(work, items[first : first + count])
+            group = items[first : first + count]
+            results, seconds = do_group(partial(attempted, work, failed=failed), group)
             answer = HEAD.pack(0, len(results), seconds)
             if any(result is not None for result in results):
-                answer = with_head(pickled(results), seconds)
+                from .batch import packed
+
+                answer = with_head(packed(results, group, failed), seconds)
         except Exception as error:
             answer = with_head(portable(error), 0.0)
         rest = memoryview(answer)

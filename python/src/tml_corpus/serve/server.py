@@ -25,7 +25,6 @@ from ..lint.kinds import chosen
 from .actions import ACTION_KINDS
 from .answers import ANSWERS, Client
 from .document import Asked, AskedUnwrapping, OpenDocument, Overtaken, path_of
-from .ending import end_by_signals
 from .findings import ERROR, findings, has_further, problem_finding, remark_finding
 from .inbox import Inbox, Message, Unreadable
 from .places import UTF_8, UTF_16
@@ -266,5 +265,4 @@ NOTICES: dict[str, Callable[[Server, Message], None]] = {
 
 def serve(tml: str | None, config: str | None, stop: Event) -> int:
     """Serves the client at standard input and output, and answers the status."""
-    end_by_signals()
     return Server(tml, config, sys.stdout.buffer).run(partial(os.read, INPUT), stop)
