@@ -1,9 +1,11 @@
 """Faults of the code where they are wanted: in the work on the file N the N-th function that is called raises something."""
 
+import builtins
 import errno
 import inspect
 import os
 import re
+import subprocess
 import sys
 from collections.abc import Callable, Iterator
 from contextlib import ExitStack, contextmanager
@@ -13,8 +15,11 @@ from types import FrameType
 from typing import Any
 from unittest import mock
 
-from corpus import SOURCES
+from corpus import COMPANION, EVENT, SOURCES, TML, CorpusTest, document, match_in
+from forked import run_forked
+from processes import with_own_bytecode
 from tml import attempts
+from tml.attempts import NO_MEMORY
 from tml.running import CannotRun
 
 PLACE = r"\((?:tml|tml_corpus|src|[a-z_]+)/[a-z0-9_]+\.py:\d+\)"
@@ -95,3 +100,51 @@ def faults() -> Iterator[None]:
             if module is not attempts and vars(module).get("attempted") is attempts.attempted:
                 stack.enter_context(mock.patch.object(module, "attempted", attacked))
         yield
+
+
+def broken() -> Callable[..., int]:
+    """Opens files, but raises for one of the folder `d` what it is called."""
+    real = os.open
+
+    def opened(path: str, *rest: Any, **more: Any) -> int:
+        folder, name = os.path.split(path.removesuffix(".xml"))
+        if os.path.basename(folder) == "d" and name != "none":
+            raise OSError(int(name), os.strerror(int(name))) if name.isdigit() else getattr(builtins, name)("bug")
+        return real(path, *rest, **more)
+
+    return opened
+
+
+def same_on_workers(test: CorpusTest, address: str) -> None:
+    """Raises each error and some bugs on the workers of a cluster, which has to be said as on one machine. Then they are whole again."""
+    from distributed import Client
+
+    bugs = ("KeyError", "RecursionError", "MemoryError", "AssertionError")
+    names = (*map(str, ERRORS), *bugs, "none")
+    for name in names:
+        test.write(f"d/{name}.xml", document(EVENT))
+
+    def change(breaks: bool) -> None:
+        if breaks:
+            os.whole = os.open  # type: ignore[attr-defined]
+        os.open = broken() if breaks else os.whole  # type: ignore[attr-defined]
+
+    # The workers do not have this module.
+    import_module("cloudpickle").register_pickle_by_value(sys.modules[__name__])
+    words = [COMPANION, "check", "--tml", os.path.abspath(TML), "d"]
+    with mock.patch.object(os, "open", broken()):
+        here = run_forked(*words, folder=test.folder)
+    with Client(address, timeout=30) as client:
+        client.run(change, True)
+        command = [sys.executable, *words, "--cluster", address]
+        there = subprocess.run(command, cwd=test.folder, env=with_own_bytecode(), capture_output=True, check=False)
+        client.run(change, False)
+    test.assertEqual((there.returncode, there.stdout, there.stderr), (here.status, here.out, here.error))
+    *lines, summary, _ = here.out.decode().splitlines()
+    test.assertEqual((here.status, summary), (2, f"{len(names)} files: 1 accepted, 0 with a fault, {len(names) - 1} not judged"))
+    for line in lines:
+        found = match_in(r"^d/(\w+)\.xml: not judged: (.*)$", line)
+        said = os.strerror(int(found[1])).lower() if found[1].isdigit() else NO_MEMORY
+        test.assertEqual(found[2] if found[1] not in set(bugs) - {"MemoryError"} else said, said)
+        if found[2] != said:
+            test.assertRegex(found[2], rf"^{found[1]}: '?bug'? {PLACE}$")

@@ -2,7 +2,8 @@
 
 In each run some hundred files have a fault each (`faults.py`): the N-th function that is called for the file N raises an error of the
 system, a bug, or what a lack of memory or an endless recursion raises. So runs of nine commands over folders raise at some 1,300 places,
-and those about one document at 140. Work on a cluster is attacked by `test_cluster.py`, and `tml.folder` by `test_folders.py`.
+and those about one document at 140. `test_cluster.py` raises each error of the system on a worker, and
+`test_folders.py` in `tml.folder`.
 """
 
 import contextlib
