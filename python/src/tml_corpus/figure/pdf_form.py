@@ -59,8 +59,9 @@ def run(browser: str, folder: str, source: Path, target: Path) -> None:
     """
     sandbox = ["--no-sandbox"] if os.geteuid() == 0 else []
     words = ["--headless", "--disable-gpu", "--disable-dev-shm-usage", "--no-first-run", "--no-pdf-header-footer", *sandbox]
-    words += ["--disable-crash-reporter", "--disable-breakpad", f"--user-data-dir={folder}/profile", f"--print-to-pdf={target}"]
-    environment, null = os.environ | {"TMPDIR": folder}, subprocess.DEVNULL
+    words += [f"--user-data-dir={folder}/profile", f"--print-to-pdf={target}"]
+    environment = os.environ | dict.fromkeys(("TMPDIR", "XDG_RUNTIME_DIR", "BREAKPAD_DUMP_LOCATION"), folder)
+    null = subprocess.DEVNULL
     child = None
     try:
         with unbroken():
