@@ -85,7 +85,6 @@ class PlacesOfBlocks(unittest.TestCase):
                     place = found.place(begin + len(before.encode("utf-8", "surrogateescape")))
                     self.assertEqual((place.line, place.column), (1 + before.count(end), number - before.rfind(end)), (document, number))
                     line = text[before.rfind(end) + 1 :].split(end)[0].rstrip("\r\n")
-                    self.assertEqual(found.line_text(place.line), line, (document, number))
                     self.assertEqual(caret_lines(*found.excerpt(place)), caret_lines(line, place.column), (document, number))
 
     def test_an_excerpt_of_a_long_line(self) -> None:

@@ -26,8 +26,8 @@ from tml_corpus.command_line import launch as launching
 
 WRITING = {
     "open", "write_text", "write_bytes", "touch", "mkdir", "makedirs", "mkdtemp", "mkstemp", "TemporaryDirectory", "NamedTemporaryFile",
-    "ZipFile", "FileIO", "fdopen", "replace", "rename", "renames", "link", "symlink", "copy", "copyfile", "copy2", "copytree", "move", "chmod",
-    "chown", "truncate", "mkfifo", "mknod", "sqlite3", "hardlink_to", "symlink_to",
+    "ZipFile", "FileIO", "fdopen", "replace", "rename", "renames", "link", "symlink", "copy", "copyfile", "copy2", "copytree", "move",
+    "chmod", "chown", "truncate", "mkfifo", "mknod", "hardlink_to", "symlink_to",
 }  # fmt: skip
 """Functions of Python that can write to files, or make them or folders."""
 
@@ -143,8 +143,9 @@ class Stopped(CorpusTest):
         """Files with rights that are not those of new ones, and old contents; their state."""
         linked = EVENT + INSTANCE + '<TIMEX3 tid="t1" type="SET"/><TLINK eventInstanceID="i1" relatedToTime="t1" relType="BEFORE"/>'
         contents = {
-            "good.xml": document(f"<s>{linked}</s>"), "slip.xml": document("&"), "clash.xml": document(CLASH), "d.svg": "old", "d.pdf": "old",
-            "known": '["tml-corpus baseline", 1]\n', "in/base-segmentation.tab": TABLES, "out/d1.xml": "old", "asked": "",
+            "good.xml": document(f"<s>{linked}</s>"), "slip.xml": document("&"), "clash.xml": document(CLASH), "d.svg": "old",
+            "known": '["tml-corpus baseline", 1]\n', "in/base-segmentation.tab": TABLES, "out/d1.xml": "old", "d.pdf": "old",
+            "asked": "",
             "pages/index.html": "old", "pages/index.js": "old", "pages/report.css": "old", "pages/document.js": "old", "kept/other": "old",
         }  # fmt: skip
         for folder in ("in", "kept", "out", "pages", "tmp"):

@@ -49,13 +49,8 @@ def packed(results: Sequence[Any], given: Sequence[Any], failed: Callable[[Any, 
     try:
         return written(results)
     except Exception:
-        return written([attempted(partial(packable, result), one, failed) for result, one in zip(results, given, strict=False)])
-
-
-def packable(result: object, _: object) -> object:
-    """A result that has bytes."""
-    written(result)
-    return result
+        packable = [partial(lambda made, _: read(written(made)), result) for result in results]
+        return written([attempted(work, one, failed) for work, one in zip(packable, given, strict=False)])
 
 
 def do_batch(text: bytes) -> bytes:

@@ -20,7 +20,7 @@ from contextlib import suppress
 from functools import partial
 from typing import Any, Generic, NoReturn, TypeVar
 
-from tml.attempts import attempted
+from tml.attempts import attempted, cause
 from tml.running import CannotRun, end_all
 
 from ..command_line.statuses import ENDED
@@ -242,7 +242,11 @@ class Worker(Generic[Result]):
         length, count, seconds = HEAD.unpack_from(self.answered)
         if len(self.answered) < HEAD.size + length:
             return None
-        results = unpickled(memoryview(self.answered)[HEAD.size :]) if length else [None] * count
+        results: Any = [None] * count
+        if length:
+            import pickle
+
+            results = pickle.loads(memoryview(self.answered)[HEAD.size :])
         self.answered = bytearray()
         if isinstance(results, Exception):
             raise results
@@ -346,9 +350,36 @@ class Crew(Generic[Item, Result]):
                 os.close(handle)
             prepare_worker(self.watched, self.lock)
             os.write(answers, READY)
-            answer_all(told, answers, self.work, self.items, self.failed, self.prepare)
+            self.answer_all(told, answers)
         finally:
             os._exit(1)
+
+    def answer_all(self, told: int, answers: int) -> None:
+        """Answers of all items that a process is told, until there are no more."""
+        problem = attempted(lambda prepare: prepare(), self.prepare, lambda _, problem: problem)
+        while message := os.read(told, PAIR.size):
+            first, count = PAIR.unpack(message)
+            rest = memoryview(self.answer_of(self.items[first : first + count], problem))
+            while rest:
+                rest = rest[os.write(answers, rest) :]
+
+    def answer_of(self, group: Sequence[Item], problem: str | None) -> bytes:
+        """The answer of some items, or a problem that ends the run."""
+        try:
+            if problem is not None:
+                raise CannotRun(problem)
+            results, seconds = do_group(partial(attempted, self.work, failed=self.failed), group)
+            if all(result is None for result in results):
+                return HEAD.pack(0, len(results), seconds)
+            from .batch import packed
+
+            answer = packed(results, group, self.failed)
+            return HEAD.pack(len(answer), 0, seconds) + answer
+        except Exception as error:
+            from .batch import written
+
+            answer = written(CannotRun(cause(error)))
+            return HEAD.pack(len(answer), 0, 0.0) + answer
 
     def give(self, groups: Groups[Result]) -> None:
         """Gives each process that has nothing to do the next items, as far as there are any."""
@@ -425,68 +456,6 @@ def prepare_worker(watched: int, lock: SharedLock) -> None:
             os._exit(1)
 
     threading.Thread(target=watch, daemon=True).start()
-
-
-def answer_all(
-    told: int,
-    answers: int,
-    work: Callable[[Any], Any],
-    items: Sequence[Any],
-    failed: Callable[[Any, str], Any],
-    prepare: Callable[[], None],
-) -> None:
-    """Answers of all items that a process is told, until there are no more."""
-    problem: Exception | None = None
-    try:
-        prepare()
-    except Exception as error:
-        problem = error
-    while message := os.read(told, PAIR.size):
-        first, count = PAIR.unpack(message)
-        try:
-            if problem is not None:
-                raise problem
-            group = items[first : first + count]
-            results, seconds = do_group(partial(attempted, work, failed=failed), group)
-            answer = HEAD.pack(0, len(results), seconds)
-            if any(result is not None for result in results):
-                from .batch import packed
-
-                answer = with_head(packed(results, group, failed), seconds)
-        except Exception as error:
-            answer = with_head(portable(error), 0.0)
-        rest = memoryview(answer)
-        while rest:
-            rest = rest[os.write(answers, rest) :]
-
-
-def with_head(answer: bytes, seconds: float) -> bytes:
-    """An answer with what stands before it."""
-    return HEAD.pack(len(answer), 0, seconds) + answer
-
-
-def portable(error: Exception) -> bytes:
-    """An error as it can be sent: itself, or what there is to say of it."""
-    try:
-        answer = pickled(error)
-        unpickled(answer)
-    except Exception:
-        return pickled(CannotRun(f"{type(error).__name__}: {error}"))
-    return answer
-
-
-def pickled(thing: object) -> bytes:
-    """The bytes of a thing."""
-    import pickle
-
-    return pickle.dumps(thing)
-
-
-def unpickled(text: bytes | memoryview) -> Any:
-    """The thing that has these bytes."""
-    import pickle
-
-    return pickle.loads(text)
 
 
 def do_group(work: Callable[[Item], Result], items: Sequence[Item]) -> tuple[list[Result], float]:

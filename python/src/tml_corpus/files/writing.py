@@ -73,12 +73,8 @@ def end_by_signals() -> None:
     """Has the signals by which systems, editors and terminals end a program end what it has started too."""
     for number in (signal.SIGTERM, signal.SIGHUP):
         if signal.getsignal(number) is signal.SIG_DFL:
-            signal.signal(number, end_by)
-
-
-def end_by(number: int, _: object) -> None:
-    """Ends what runs, and then this process by the signal that came; a program that is just being started is waited for."""
-    STARTS.after(partial(end_now, number))
+            # A program that is just being started is waited for.
+            signal.signal(number, lambda number, _: STARTS.after(partial(end_now, number)))
 
 
 def end_now(number: int) -> None:
