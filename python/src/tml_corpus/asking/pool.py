@@ -21,7 +21,7 @@ from functools import partial
 from typing import Any, Generic, NoReturn, TypeVar
 
 from tml.attempts import attempted, cause
-from tml.running import CannotRun, end_all
+from tml.running import STARTS, CannotRun, end_all
 
 from ..command_line.statuses import ENDED
 from ..files.finding import reason
@@ -449,11 +449,15 @@ def prepare_worker(watched: int, lock: SharedLock) -> None:
     gc.freeze()
     Room.share(lock)
 
-    def watch() -> None:
-        os.read(watched, 1)
+    def end_now() -> None:
         end_all()
         with WRITING:
             os._exit(1)
+
+    def watch() -> None:
+        os.read(watched, 1)
+        # A program that is just being started is waited for.
+        STARTS.after(end_now)
 
     threading.Thread(target=watch, daemon=True).start()
 
