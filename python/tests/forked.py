@@ -30,7 +30,7 @@ from tml_corpus.command_line.launch import MODULES
 LATER = ("pickle", "tml.library", "tml_corpus.asking.libraries")
 """What most runs of `tml-corpus` import only where they need it."""
 
-LAUNCHED = re.compile(r"^from tml_corpus\.command_line\.launch import (\w+)$", re.MULTILINE)
+LAUNCHED = re.compile(r"^ *from tml_corpus\.command_line\.launch import (\w+)$", re.MULTILINE)
 """The line of a launcher that says which program it starts."""
 
 Streams = tuple[IO[bytes], IO[bytes], IO[bytes]]

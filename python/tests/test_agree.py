@@ -14,7 +14,7 @@ from functools import partial
 from corpus import TML, TOO_LONG, CorpusTest, document, needed, needs_score
 from test_timeline import event, link
 from tml.results import Score
-from tml_corpus.agreement.agree import Wanted, compare, sides_of
+from tml_corpus.agreement.agree import Wanted, compare, not_compared, sides_of
 from tml_corpus.agreement.scores import Corpus
 from tml_corpus.asking.batch import do_batch, read, written
 from tml_corpus.asking.pool import nothing
@@ -281,7 +281,7 @@ class Elsewhere(AgreeTest):
         finally:
             os.chdir(here)
         work = partial(compare, Program(os.path.abspath(TML)), sides, wanted=Wanted(links=True))
-        [report] = read(do_batch(written((nothing, work, [Found("a/chain.xml", None, self.folder)]))))
+        [report] = read(do_batch(written((nothing, work, partial(not_compared, sides), [Found("a/chain.xml", None, self.folder)]))))
         self.assertEqual((report.name, report.key_path, report.scores), ("chain.xml", "b/chain.xml", Score(0, 2, 1, 1)))
         self.assertEqual(len(report.disagreements), 2)
 

@@ -88,7 +88,7 @@ class Programs(AttackTest):
     def test_a_program_that_hangs_is_ended_with_the_second_interruption(self) -> None:
         # A folder is there at once with all of its name, as a file with its content is not.
         fake = self.fake(f'cat >/dev/null\nmkdir -p "{self.path("asked")}/$$"\nsleep 300')
-        for command in (COMMANDS[0], COMMANDS[4], COMMANDS[6], COMMANDS[7]):
+        for command in (COMMANDS[0], COMMANDS[4], COMMANDS[7]):
             with self.subTest(command):
                 shutil.rmtree(self.path("asked"), ignore_errors=True)
                 child = self.begin(command, tml=fake)
@@ -100,11 +100,27 @@ class Programs(AttackTest):
                 self.assertEqual(child.returncode, -signal.SIGINT)
                 until(lambda: not any(map(is_running, self.asked())))
 
-    def test_tml_edit_ends_with_the_first_interruption(self) -> None:
-        child = self.begin(COMMANDS[8], tml=self.fake(f'mkdir -p "{self.path("asked")}/$$"\nsleep 300'))
-        until(self.asked)
-        child.send_signal(signal.SIGINT)
-        self.assertEqual((child.communicate(timeout=PATIENCE), child.returncode), ((b"", b""), 130))
+    def test_a_program_with_nothing_to_report_ends_with_the_first_interruption(self) -> None:
+        for command in (COMMANDS[6], COMMANDS[8]):
+            with self.subTest(command):
+                shutil.rmtree(self.path("asked"), ignore_errors=True)
+                child = self.begin(command, tml=self.fake(f'mkdir -p "{self.path("asked")}/$$"\nsleep 300'))
+                until(self.asked)
+                child.send_signal(signal.SIGINT)
+                said = f"{command.split()[0]}: interrupted\n".encode()
+                self.assertEqual((child.communicate(timeout=PATIENCE), child.returncode), ((b"", said), 130))
+                until(lambda: not any(map(is_running, self.asked())))
+
+    def test_a_program_that_hangs_ends_with_what_is_ended_from_outside(self) -> None:
+        fake = self.fake(f'mkdir -p "{self.path("asked")}/$$"\ncat >/dev/null; sleep 300')
+        for number, command in ((signal.SIGTERM, COMMANDS[6]), (signal.SIGHUP, COMMANDS[7]), (signal.SIGTERM, COMMANDS[8])):
+            with self.subTest(command):
+                shutil.rmtree(self.path("asked"), ignore_errors=True)
+                child = self.begin(command, tml=fake)
+                until(self.asked)
+                child.send_signal(number)
+                self.assertEqual((child.communicate(timeout=PATIENCE), child.returncode), ((b"", b""), -number))
+                until(lambda: not any(map(is_running, self.asked())))
 
     def asked(self) -> list[int]:
         """The programs that have been asked, by the folders with their numbers."""

@@ -33,7 +33,7 @@ def is_before_the_launcher(error: str) -> bool:
         return False
     line = Path(found[1]).read_text(encoding="utf-8").splitlines()[int(found[2]) - 1]
     importing = all(frame.startswith("<frozen importlib") for frame in FRAME.findall(error)[1:])
-    return line == "import re" or (line.startswith("from tml_corpus.command_line.launch import ") and importing)
+    return line == "import re" or (line.lstrip().startswith("from tml_corpus.command_line.launch import ") and importing)
 
 
 class LittleRoom(AttackTest):

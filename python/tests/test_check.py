@@ -5,9 +5,11 @@ import os
 import re
 import unittest
 import xml.etree.ElementTree as ElementTree
+from functools import partial
 
 from corpus import EVENT, HELD, TML, TOO_LONG, CorpusTest, document, match_in, needed, text_at
 from processes import PATIENCE, interrupt
+from tml.attempts import attempted
 from tml.statuses import DOCUMENT_LIMIT
 
 GOOD = document(EVENT)
@@ -77,13 +79,14 @@ class Statuses(CorpusTest):
 
     def test_a_file_that_vanishes_after_the_search(self) -> None:
         from tml_corpus.asking.program import Program
-        from tml_corpus.check.first import judge
+        from tml_corpus.check.first import judge, not_judged
         from tml_corpus.files.finding import find_files
 
         self.write("a.xml", GOOD)
         [found] = find_files([self.folder], ["*.xml"])
         os.unlink(found.path)
-        self.assertEqual(judge(Program(TML), found, True, 1).problem, "no such file or directory")
+        judgement = attempted(partial(judge, Program(TML), explained=True, more=1), found, not_judged)
+        self.assertEqual(judgement.problem, "no such file or directory")
 
     def test_statuses_of_tml(self) -> None:
         self.write("a.xml", GOOD)

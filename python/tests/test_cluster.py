@@ -4,6 +4,7 @@ Without the module `distributed` (of Debian: python3-distributed) most of it is 
 """
 
 import glob
+import importlib.util
 import os
 import signal
 import socket
@@ -11,6 +12,7 @@ import unittest
 
 from corpus import EVENT, HELD, INSTANCE, TML, TOO_LONG, CorpusTest, document, needed, text_at
 from daemons import ClusterTest, needs_distributed
+from faults import same_on_workers
 from processes import PATIENCE, WITH_PACKAGES, until
 
 Streams = tuple[int, bytes, bytes]
@@ -87,6 +89,10 @@ class OnACluster(ClusterTest):
         self.assertEqual(one, self.bytes_of("clashes", "--evidence", "kept", "d", "--cluster", self.address))
         self.assertEqual(before, {name: text_at(name) for name in glob.glob(self.path("kept/*"))})
         self.assertEqual(len(before), 10)
+
+    @unittest.skipUnless(importlib.util.find_spec("distributed"), "this Python has no module distributed")
+    def test_what_the_work_raises_on_a_worker_is_said_of_its_file(self) -> None:
+        same_on_workers(self, self.address)
 
     def test_statuses(self) -> None:
         self.write("good.xml", document(EVENT))

@@ -1,13 +1,18 @@
 """What the first line on a fault says, `--more`, and `tml-corpus tags`."""
 
+import codecs
+import encodings.aliases
 import json
 import os
 import re
 import unittest
 from collections.abc import Sequence
+from random import Random
 
 from corpus import EVENT, INSTANCE, CorpusTest, document, needed
+from tml.explaining.encoding import converted, not_utf8
 from tml.statuses import MANY_BYTES, RELATIONS
+from tml.tags.source import Source
 
 TIME = '<TIMEX3 tid="t1" type="DATE"/>'
 
@@ -293,6 +298,43 @@ class Explanations(CorpusTest):
             ),
         ]
         self.check_whole(rows)
+
+    def test_bytes_of_declared_encodings(self) -> None:
+        texts = {
+            "EUC-KR": "가나다라 회사가 했다", "cp949": "똠방각하 회사가", "EUC-JP": "日本語の文書", "Shift_JIS": "日本語の文書ソ", "Big5": "中文文件功能",
+            "GBK": "中文文件测试", "GB18030": "中文文件测试\U00020000", "iso-8859-5": "Привет",
+        }  # fmt: skip
+        for name, text in texts.items():
+            content = f'<?xml version="1.0" encoding="{name}"?>\n<TimeML>{text}</TimeML>\n'
+            document = content.encode(name)
+            with self.assertRaises(UnicodeDecodeError) as raised:
+                document.decode()
+            with self.subTest(name):
+                found = not_utf8(Source(document, None), raised.exception.start)
+                self.assertIn(
+                    f" ({text[0]} in {codecs.lookup(name).name}), are not UTF-8: the file looks like {codecs.lookup(name).name}; ",
+                    found.text,
+                )
+                [edit] = converted(document)
+                self.assertEqual(edit.text.decode(), content.replace(name, "UTF-8"))
+
+    def test_no_declared_encoding_is_too_much(self) -> None:
+        draw = Random(1)
+        for name in sorted({*encodings.aliases.aliases.values(), "undefined", "idna", "punycode", "unicode_escape", "raw_unicode_escape"}):
+            for _ in range(3):
+                tail = draw.randbytes(draw.randint(1, 9)) + b"\xff"
+                document = f'<?xml version="1.0" encoding="{name}"?><TimeML>'.encode() + tail
+                with self.assertRaises(UnicodeDecodeError) as raised:
+                    document.decode()
+                with self.subTest(name, tail=tail):
+                    self.assertNotEqual(not_utf8(Source(document, None), raised.exception.start).text, "")
+                    self.assertLessEqual(len(list(converted(document))), 1)
+
+    def test_a_slip_in_utf8_is_not_a_declared_encoding(self) -> None:
+        for name, text in (("GB18030", "中文文件"), ("EUC-KR", "가나다라"), ("Shift_JIS", "日本語")):
+            document = f'<?xml version="1.0" encoding="{name}"?><TimeML>{text}'.encode() + b"\xe9</TimeML>"
+            with self.subTest(name):
+                self.assertEqual(list(converted(document)), [])
 
     def test_general_sentences_where_no_others_are_wanted(self) -> None:
         self.write("d.xml", document("<SIGNAL/>"))

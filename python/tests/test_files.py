@@ -12,18 +12,18 @@ from tml.statuses import DOCUMENT_LIMIT
 from tml_corpus.files.finding import CannotRead, Found, find_files, read_document, reason, search_folder
 
 NAMES = ("a", "b.xml", "c.tml", "d.XML", ".xml", "é.xml", "x.xmlx", "[a].xml", "n\n.xml", "\udce9.xml")
-PATTERNS = (["*.tml", "*.xml"], ["*"], ["a*"], ["*[.]xml", "?"], ["[!a]*.xml"], ["*.*"], ["nothing"], ["b.xml", "*.tml"])
+PATTERNS = (["*.tml", "*.xml"], ["*"], ["a*"], ["*[.]xml", "?"], ["[!a]*.xml"], ["*.*"], ["nothing"], ["b.xml", "*.tml"], ["*.XmL"], ["A*"])
 
 
 def walked(folder: str, patterns: Sequence[str]) -> list[Found]:
-    """The matching files below a folder as `os.walk` finds them."""
+    """The matching files below a folder as `os.walk` finds them, in any case of letters."""
     found: list[Found] = []
     for place, folders, names in os.walk(folder, onerror=lambda error: found.append(Found(str(error.filename), reason(error)))):
         folders.sort()
         found += [
             Found(os.path.join(place, name), top=folder)
             for name in sorted(names)
-            if any(fnmatch.fnmatchcase(name, one) for one in patterns)
+            if any(fnmatch.fnmatchcase(name.lower(), one.lower()) for one in patterns)
         ]
     return found or [Found(folder, f"no file in this folder matches {' or '.join(patterns)}")]
 

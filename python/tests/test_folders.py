@@ -2,12 +2,15 @@
 
 from __future__ import annotations
 
+import errno
 import importlib
 import os
+import re
 import subprocess
 import sys
 import tempfile
 import unittest
+from collections.abc import Callable
 from functools import partial
 from pathlib import Path
 from typing import Any
@@ -28,9 +31,54 @@ def ends_its_process(path: str) -> str:
     return path
 
 
-def raises(path: str) -> str:
-    """A question that cannot be asked."""
-    raise tml.UnknownName("x")
+class Odd(Exception):
+    """An error that cannot be sent."""
+
+    def __init__(self, one: str, other: str) -> None:
+        super().__init__(f"{one} and {other}")
+
+
+class Broken:
+    """An answer that cannot be read."""
+
+    def __reduce__(self) -> tuple[type[tml.UnknownName], tuple[()]]:
+        return tml.UnknownName, ()
+
+
+HERE = r"\(tests/test_folders\.py:\d+\)"
+RAISED: dict[str, tuple[Callable[[], object], str]] = {
+    "bug": (lambda: FOUND["x"], rf"KeyError: 'x' {HERE}"),
+    "memory": (lambda: bytearray(1 << 62), "no memory to take the document apart"),
+    "misuse": (
+        lambda: tml.possible(b"<TimeML/>", "x", "y"),
+        r"UnknownName: 'x' is not an interval of the document: it has none \(tml/\w+\.py:\d+\)",
+    ),
+    "none": (lambda: "an answer", "an answer"),
+    "odd": (lambda: deep(Odd("one", "other")), rf"Odd: one and other {HERE}"),
+    "encoding": (lambda: b"\xe9".decode(), rf"UnicodeDecodeError: 'utf-8' codec .* {HERE}"),
+    "recursion": (lambda: deep(None), rf"RecursionError: maximum recursion depth exceeded.* {HERE}"),
+}
+"""What is raised about a file that is so called, and what is said of it."""
+
+
+def hard_to_send(path: str) -> object:
+    """A question with answers of which some cannot be sent, and some cannot be read."""
+    return {"a.xml": lambda: path, "b.xml": Broken()}.get(os.path.basename(path), path)
+
+
+def deep(error: Exception | None) -> object:
+    """Raises an error, or calls itself without an end."""
+    if error is not None:
+        raise error
+    return [deep(error)]
+
+
+def raises(path: str) -> object:
+    """A question that raises something: what the file is called, or the number of an error of the system."""
+    name = os.path.basename(path).removesuffix(".xml")
+    if name not in RAISED:
+        raise OSError(int(name), os.strerror(int(name)))
+    return RAISED[name][0]()
 
 
 def own(name: str) -> Any:
@@ -91,10 +139,37 @@ class Folders(unittest.TestCase):
         found = [(os.path.basename(path), type(answer)) for path, answer in tml.folder(self.folder, tml.check, jobs=1)]
         self.assertEqual(found, [("a.xml", tml.Accepted), ("c.xml", tml.NotAnswered)])
 
-    def test_what_is_raised(self) -> None:
+    def test_what_a_question_raises_is_said_of_its_file(self) -> None:
+        names = [*map(str, errno.errorcode), *RAISED]
+        for name in names:
+            (self.folder / f"{name}.xml").write_text("<TimeML/>")
+        for jobs in (1, 3):
+            found = {
+                os.path.basename(path).removesuffix(".xml"): answer for path, answer in tml.folder(self.folder, own("raises"), jobs=jobs)
+            }
+            self.assertEqual(sorted(found), sorted(names))
+            for name, answer in found.items():
+                said = RAISED[name][1] if name in RAISED else re.escape(os.strerror(int(name)).lower())
+                with self.subTest(name, jobs=jobs):
+                    self.assertRegex(str(answer), f"^{said}$")
+                    self.assertEqual(isinstance(answer, tml.NotAnswered), name != "none")
+
+    def test_an_answer_that_cannot_be_sent_is_the_only_one_lost(self) -> None:
+        for name in ("a.xml", "b.xml", "c.xml"):
+            (self.folder / name).write_text("<TimeML/>")
+        first, second, third = (answer for _, answer in tml.folder(self.folder, own("hard_to_send"), jobs=2))
+        self.assertRegex(first.reason, r"^AttributeError: Can't pickle local object .* \(tml/attempts\.py:\d+\)$|\(tml/workers\.py:\d+\)$")
+        self.assertRegex(second.reason, r"^TypeError: .* \(tml/workers\.py:\d+\)$")
+        self.assertEqual(third, str(self.folder / "c.xml"))
+
+    def test_nothing_found(self) -> None:
+        (self.folder / "a.txt").touch()
         for jobs in (1, 2):
-            with self.assertRaises(tml.UnknownName):
-                list(tml.folder(SAMPLES, own("raises"), jobs=jobs))
+            [found] = tml.folder(self.folder, tml.check, jobs=jobs)
+            self.assertEqual(found, (str(self.folder), tml.NotAnswered("no name in this folder ends in .tml or .xml")))
+        (self.folder / "B.TML").write_text("<TimeML/>")
+        (self.folder / "c.Xml").write_text("<TimeML/>")
+        self.assertEqual([os.path.basename(path) for path, _ in tml.folder(self.folder, tml.check, jobs=1)], ["B.TML", "c.Xml"])
 
     def test_what_cannot_be_sent(self) -> None:
         with self.assertRaisesRegex(TypeError, "^another process can only be asked a function of a module"):

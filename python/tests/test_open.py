@@ -20,6 +20,7 @@ from tml.running import run
 from tml.statuses import LINK_LIMIT
 from tml_corpus.asking.pool import Interruption
 from tml_corpus.asking.program import Program
+from tml_corpus.files.finding import Found
 from tml_corpus.matrix.settling import Settling
 from tml_corpus.matrix.show_open import Bounds, show_open
 
@@ -100,7 +101,9 @@ class Printed(OpenTest):
             mock.patch("tml_corpus.asking.program.run", wraps=run) as asked,
             mock.patch("sys.stdout", io.StringIO()) as out,
         ):
-            show_open(Program(TML), self.path("d.xml"), Bounds(0, 2), False, lambda work, items, **_: map(work, items), Interruption())
+            show_open(
+                Program(TML), Found(self.path("d.xml")), Bounds(0, 2), False, lambda work, items, **_: map(work, items), Interruption()
+            )
         relations = sum(len(match_in(PAIR, line)[5].split(", ")) for line in out.getvalue().splitlines()[:-1])
         commands = [call.args[0][1] for call in asked.call_args_list]
         self.assertEqual((read.call_count, commands.count("matrix")), (1, 1 + relations))

@@ -85,7 +85,6 @@ class PlacesOfBlocks(unittest.TestCase):
                     place = found.place(begin + len(before.encode("utf-8", "surrogateescape")))
                     self.assertEqual((place.line, place.column), (1 + before.count(end), number - before.rfind(end)), (document, number))
                     line = text[before.rfind(end) + 1 :].split(end)[0].rstrip("\r\n")
-                    self.assertEqual(found.line_text(place.line), line, (document, number))
                     self.assertEqual(caret_lines(*found.excerpt(place)), caret_lines(line, place.column), (document, number))
 
     def test_an_excerpt_of_a_long_line(self) -> None:
@@ -300,15 +299,13 @@ class Folders(unittest.TestCase):
         self.folder = held.name
 
     def test_a_file_is_written_whole_or_not_at_all(self) -> None:
-        from tml_corpus.files.replacing import written
+        from tml_corpus.files.replacing import replace_file
 
         target = os.path.join(self.folder, "a")
-        with written(target) as file:
-            file.write(b"one")
-        for problem in (OSError, KeyboardInterrupt):
-            with self.assertRaises(problem), written(target) as file:
-                file.write(b"two")
-                raise problem
+        replace_file(target, b"one")
+        for problem, raised in ((OSError, CannotRun), (KeyboardInterrupt, KeyboardInterrupt)):
+            with self.assertRaises(raised), mock.patch.object(os, "replace", side_effect=problem):
+                replace_file(target, b"two")
         self.assertEqual(Path(target).read_bytes(), b"one")
         self.assertEqual(os.listdir(self.folder), ["a"])
 
@@ -394,7 +391,7 @@ class Project(unittest.TestCase):
             module, function = place.split(":")
             script = os.path.join(TOOLS, name if name in ("tml-corpus", "tml-edit") else name.removeprefix("tml-"))
             with self.subTest(name), open(script, encoding="utf-8") as file:
-                self.assertIn(f"\nfrom {module} import {function}\n", file.read())
+                self.assertRegex(file.read(), rf"\n    from {re.escape(module)} import {function}\n")
                 self.assertEqual(function, os.path.basename(script).replace("-", "_"))
                 said = subprocess.run([*BARE, script, "--version"], capture_output=True, text=True, check=True).stdout
                 self.assertEqual(said, f"{os.path.basename(script)} {project['version']}\n")

@@ -18,8 +18,8 @@ from tml_corpus.asking.program import CannotRun
 from tml_corpus.asking.room import Room, SharedLock, room_for
 
 
-def lost(item: int) -> tuple[str, int]:
-    """What is said of an item that ended its process."""
+def lost(item: int, _: str = "") -> tuple[str, int]:
+    """What is said of an item with which something went wrong."""
     return "lost", item
 
 
@@ -44,6 +44,11 @@ def deadly(item: int) -> int:
 def large_or_nothing(item: int) -> str | None:
     """Work with results that no pipe takes at once, and with none."""
     return str(item) * 200_000 if item % 50 == 3 else None
+
+
+def hard_to_send(item: int) -> object:
+    """Work of which some results cannot be sent to another process."""
+    return (lambda: item) if item % 20 == 7 else item
 
 
 class Odd(Exception):
@@ -104,12 +109,21 @@ class Order(unittest.TestCase):
         found = list(in_order(deadly, range(100), 2, Interruption(), lost))
         self.assertEqual(found, [lost(item) if item in (30, 31, 59) else item for item in range(100)])
 
-    def test_an_error_in_a_process_is_one_here(self) -> None:
-        found: list[object] = []
-        with self.assertRaisesRegex(CannotRun, "^no item 20$"):
-            found.extend(in_order(failing, range(30), 1, Interruption(), lost))
-        with self.assertRaisesRegex(CannotRun, "^Odd: one and other$"):
-            found.extend(in_order(failing, range(21, 60), 1, Interruption(), lost))
+    def test_an_item_at_which_the_work_raises_is_the_only_one_lost(self) -> None:
+        said = [*range(20), "no item 20", *range(21, 40), "Odd: one and other (tests/test_pool.py:63)", *range(41, 60)]
+        self.assertEqual(list(in_order(failing, range(60), 2, Interruption(), lambda _, problem: problem)), said)
+
+    def test_an_item_whose_result_cannot_be_sent_is_the_only_one_lost(self) -> None:
+        found = list(in_order(hard_to_send, range(60), 2, Interruption(), lost))
+        self.assertEqual(found, [lost(item) if item % 20 == 7 else item for item in range(60)])
+
+    def test_what_is_made_of_a_failure_may_end_the_run(self) -> None:
+        def ends(_: int, problem: str) -> int:
+            raise CannotRun(problem)
+
+        for items, problem in ((range(30), "no item 20"), (range(21, 60), "Odd: one and other")):
+            with self.assertRaisesRegex(CannotRun, f"^{problem}"):
+                list(in_order(failing, items, 1, Interruption(), ends))
 
     def test_what_a_process_does_first(self) -> None:
         prepared = []
@@ -136,7 +150,7 @@ class Order(unittest.TestCase):
             with room_for(b" " * 300_000):
                 os.kill(os.getpid(), 9)
 
-        def never(item: int) -> tuple[float, float]:
+        def never(item: int, _: str) -> tuple[float, float]:
             raise AssertionError(f"{item} is lost")
 
         times = sorted(in_order(held, range(20), 4, Interruption(), never))
@@ -193,8 +207,7 @@ class LittleRoom(unittest.TestCase):
     def test_a_process_that_does_not_get_ready_is_not_waited_for(self) -> None:
         with slow_to_begin(1), mock.patch.object(pool, "BEGINNING", 2 * PATIENCE):
             begun = time.monotonic()
-            with self.assertRaisesRegex(CannotRun, "^no item 20$"):
-                list(in_order(failing, range(15, 300), 2, Interruption(), lost))
+            self.assertEqual(list(in_order(failing, range(15, 300), 2, Interruption(), lost))[:6], [15, 16, 17, 18, 19, lost(20)])
             self.assertLess(time.monotonic() - begun, PATIENCE)
 
     def test_where_no_process_gets_ready(self) -> None:

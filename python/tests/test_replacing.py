@@ -298,9 +298,9 @@ class Signals(ReplacingTest):
                 self.mend()
 
         def draw(number: int) -> None:
-            def kill_and_rename(old: str, new: str) -> None:
+            def kill_and_rename(old: str, new: str, **folders: int) -> None:
                 os.kill(os.getpid(), number)
-                rename(old, new)
+                rename(old, new, **folders)
 
             with mock.patch.object(os, "replace", kill_and_rename):
                 write_picture(self.path("d.xml"), NEW.decode())
@@ -332,7 +332,7 @@ class Signals(ReplacingTest):
                 self.mend()
             time.sleep(60)
 
-        status, _ = in_child(lambda: list(in_order(replace, [1], 1, Interruption(), lambda _: None)))
+        status, _ = in_child(lambda: list(in_order(replace, [1], 1, Interruption(), lambda *_: None)))
         self.assertEqual((status, self.content(), self.names()), (-signal.SIGKILL, NEW, ["d.xml"]))
 
 

@@ -370,7 +370,7 @@ class NotDrawn(TimelineTest):
             ([".", "-o", "a.svg"], ".: not judged: is not a regular file"),
             (["d.xml", "-o", "same.svg"], "d.xml: not judged: the picture would be written over it"),
             (["d.xml", "-o", "gone/a.svg"], "tml-corpus: gone/a.svg cannot be written: no such file or directory"),
-            (["d.xml", "-o", "dir.svg"], "tml-corpus: dir.svg cannot be written: is a directory"),
+            (["d.xml", "-o", "dir.svg"], "tml-corpus: dir.svg cannot be written: is not a regular file"),
             (["d.xml", "-o", "a.png"], "a.png ends in none of .svg, .html, .pdf and .tex"),
             (["d.xml"], "required: -o/--output"),
         ]

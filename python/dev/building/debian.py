@@ -73,8 +73,11 @@ def libc_of(program: bytes) -> str:
 
 
 def releases_of(text: str) -> list[Release]:
-    """The versions of CHANGELOG.md, the last one first. Of a day with several each is a minute after the one before it."""
-    headings = re.findall(r"^## (.*)$", text, re.MULTILINE)
+    """The versions of CHANGELOG.md, the last one first. Of a day with several each is a minute after the one before it.
+
+    What is not released yet is none.
+    """
+    headings = re.findall(r"^## (?!Unreleased$)(.*)$", text, re.MULTILINE)
     found = [re.fullmatch(r"(\d+\.\d+\.\d+), (\d{4}-\d\d-\d\d)", heading) for heading in headings]
     if not found or None in found:
         raise CannotMake("CHANGELOG.md has a heading that is not `## VERSION, DATE`, or none")

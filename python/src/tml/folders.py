@@ -9,6 +9,7 @@ from dataclasses import dataclass
 from functools import partial
 from typing import TYPE_CHECKING, Any, Generic, NamedTuple, TypeVar, overload
 
+from .attempts import attempted, cause
 from .documents import Document
 from .questions import read
 from .results import Fault, Result, TooLong
@@ -30,10 +31,16 @@ Paths = str | os.PathLike[str] | Iterable[str | os.PathLike[str]]
 
 Given = TypeVar("Given")
 
+Found = tuple[str, "NotAnswered | None"]
+"""A file; or a folder, and why nothing is asked about it."""
+
 
 @dataclass(frozen=True)
 class NotAnswered(Result):
-    """Why there is no answer about a file: it cannot be read, or the process that was asked about it ended."""
+    """Why there is no answer about a file: it cannot be read, the question raised something, or the process that was asked ended.
+
+    Of a folder it says that nothing was found there, or that it cannot be read.
+    """
 
     reason: str
 
@@ -61,24 +68,29 @@ def folder(paths: Paths, question: Callable[[str], Given], jobs: int | None = No
 def folder(paths: Paths, question: Callable[[str], Any] = read, jobs: int | None = None) -> Iterator[Answered[Any]]:
     """The answers to a question about each of many documents, one after another, in the order of the paths.
 
-    A path is a file, or a folder that is searched for names that end in `.tml` or `.xml`, in the order of the names. The question takes a
-    path: a function of this package, or one of a module that can be imported, with `functools.partial` where it takes more; by default it
-    is `read`. It is asked in as many processes at once as there are processors, or as `jobs` says; with `jobs=1` in this process, and
-    then it may be any function.
+    A path is a file, or a folder that is searched for names that end in `.tml` or `.xml`, in any case of letters and in the order of the
+    names. The question takes a path: a function of this package, or one of a module that can be imported, with `functools.partial` where it
+    takes more; by default it is `read`. It is asked in as many processes at once as there are processors, or as `jobs` says; with `jobs=1`
+    in this process, and then it may be any function.
 
-    Where a file cannot be read, or takes its process along, the answer is a `NotAnswered`, and the others go on. What else a question
-    raises is raised here.
+    Where a file cannot be read, or takes its process along, or the question raises anything about it, the answer is a `NotAnswered` with
+    the cause, and the others go on.
     """
     if jobs is not None and jobs < 1:
         raise ValueError(f"jobs is how many processes are asked, 1 or more, and not {jobs}")
     found = files_of(paths)
     count = jobs or len(os.sched_getaffinity(0))
     if count == 1:
-        return (Answered(path, asked_here(question, path)) for path in found)
+        return (Answered(path, unread or attempted(question, path, not_answered)) for path, unread in found)
     return asked_of_workers(found, sendable(question), count)
 
 
-def files_of(paths: Paths) -> Iterator[str]:
+def not_answered(_: str, problem: str) -> NotAnswered:
+    """What there is of a file with which something went wrong."""
+    return NotAnswered(problem)
+
+
+def files_of(paths: Paths) -> Iterator[Found]:
     """The files that paths stand for."""
     if isinstance(paths, (bytes, bytearray)):
         raise TypeError("the paths of documents are text or pathlib.Path, and not bytes")
@@ -87,37 +99,34 @@ def files_of(paths: Paths) -> Iterator[str]:
         if os.path.isdir(place):
             yield from files_in(place)
         else:
-            yield place
+            yield place, None
 
 
-def files_in(top: str) -> Iterator[str]:
+def files_in(top: str) -> Iterator[Found]:
     """The documents below a folder, and the folders in it that cannot be read. Folders that are symbolic links are not entered, and what
     is neither a file nor missing, as a pipe, is passed over."""
     unread: list[OSError] = []
+    is_empty = True
     for place, folders, names in os.walk(top, onerror=unread.append):
         folders.sort()
-        found = (os.path.join(place, name) for name in sorted(names) if name.endswith(PATTERNS))
-        yield from (path for path in found if os.path.isfile(path) or not os.path.exists(path))
-    yield from (str(error.filename) for error in unread)
+        for path in (os.path.join(place, name) for name in sorted(names) if name.lower().endswith(PATTERNS)):
+            if os.path.isfile(path) or not os.path.exists(path):
+                is_empty = False
+                yield path, None
+    yield from ((str(error.filename), NotAnswered(cause(error))) for error in unread)
+    if is_empty and not unread:
+        yield top, NotAnswered(f"no name in this folder ends in {' or '.join(PATTERNS)}")
 
 
-def asked_here(question: Callable[[str], Given], path: str) -> Given | NotAnswered:
-    """The answer to a question about a file, or why there is none."""
-    try:
-        return question(path)
-    except OSError as error:
-        return NotAnswered((error.strerror or str(error)).lower())
-
-
-def asked_of_workers(paths: Iterable[str], question: Callable[[str], Any], count: int) -> Iterator[Answered[Any]]:
+def asked_of_workers(found: Iterable[Found], question: Callable[[str], Any], count: int) -> Iterator[Answered[Any]]:
     """The answers of some processes, in the order of the paths. Where nobody takes them, no more is asked."""
     from concurrent.futures import ThreadPoolExecutor
 
     waiting: deque[tuple[str, Future[Any]]] = deque()
     with Workers(question) as workers, ThreadPoolExecutor(count) as threads:
         try:
-            for path in paths:
-                waiting.append((path, threads.submit(partial(workers.ask, path))))
+            for path, unread in found:
+                waiting.append((path, threads.submit(partial(workers.ask, path) if unread is None else partial(Lost, unread.reason))))
                 while len(waiting) >= AHEAD * count:
                     yield taken(waiting)
             while waiting:

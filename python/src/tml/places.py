@@ -7,11 +7,11 @@ that has no LF at all, as old Macintosh programs wrote them, and else counts as 
 
 import re
 import unicodedata
-from bisect import bisect_left, bisect_right
+from bisect import bisect_right
 from itertools import pairwise
 from typing import NamedTuple
 
-from .logs import COMMAND
+from .saying import COMMAND
 
 BYTE_ORDER_MARK = b"\xef\xbb\xbf"
 SHOWN_WIDTH = 160
@@ -59,15 +59,6 @@ class Places:
         """How many characters stand before an offset, without a byte order mark."""
         number = max(bisect_right(self.blocks, offset) - 1, 0)
         return self.characters[number] + len(characters(self.document[self.blocks[number] : offset]))
-
-    def line_text(self, line: int) -> str:
-        """The characters of a line without its end."""
-        number = bisect_left(self.ends, line - 1) - 1 if line > 1 else 0
-        start, left = self.blocks[number] if line > 1 else self.begin, line - 1 - self.ends[number]
-        for _ in range(left):
-            start = self.document.index(self.end, start) + 1
-        end = self.document.find(self.end, start)
-        return characters(self.document[start : end if end >= 0 else len(self.document)].rstrip(b"\r\n"))
 
     def excerpt(self, place: Place) -> tuple[str, int]:
         """The part of the line around a place that is shown, and the column of the place in it."""

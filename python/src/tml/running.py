@@ -5,6 +5,7 @@ from __future__ import annotations
 import os
 import select
 import signal
+import threading
 import time
 from collections.abc import Callable, Iterator, Sequence
 from contextlib import contextmanager, suppress
@@ -36,15 +37,22 @@ class Starts:
 
     @contextmanager
     def one(self) -> Iterator[None]:
-        """A program is being started."""
-        start = object()
+        """A program is being started. An interruption waits until it is: raised in the middle it would leave the program behind."""
+        start, before, came = object(), signal.getsignal(signal.SIGINT), list[int]()
+        is_held = before is signal.default_int_handler and threading.current_thread() is threading.main_thread()
+        if is_held:
+            signal.signal(signal.SIGINT, lambda number, _: came.append(number))
         self.begun.add(start)
         try:
             yield
         finally:
             self.begun.discard(start)
+            if is_held:
+                signal.signal(signal.SIGINT, before)
             if self.then is not None and not self.begun:
                 self.then()
+        if came:
+            raise KeyboardInterrupt
 
     def after(self, then: Callable[[], object]) -> None:
         """Does this once no program is being started: at once, or when the last one is among those that run."""
@@ -56,7 +64,11 @@ class Starts:
 STARTS = Starts()
 
 
-class CannotRun(Exception):
+class Expected(Exception):
+    """What the code expects to go wrong. Its text says all that a user has to know."""
+
+
+class CannotRun(Expected):
     """A program could not be started, took too long, printed too much, or answered what it never should."""
 
 
@@ -102,6 +114,7 @@ def started(words: Sequence[str], document: bytes | IO[bytes], other: IO[bytes] 
     """A program that was started, and is among the running ones."""
     import subprocess
 
+    child = None
     try:
         with STARTS.one():
             child = subprocess.Popen(
@@ -118,6 +131,10 @@ def started(words: Sequence[str], document: bytes | IO[bytes], other: IO[bytes] 
             RUNNING.add(child)
     except (OSError, ValueError) as error:
         raise CannotRun(f"tml could not be run: {error}") from None
+    except KeyboardInterrupt:
+        if child is not None:
+            end(child)
+        raise
     return child
 
 

@@ -5,7 +5,8 @@ from __future__ import annotations
 import re
 from collections.abc import Iterable, Sequence
 
-from .logs import COMMAND
+COMMAND = r"#(?=#(?:\[|vso|teamcity))"
+"""The first sign of what build servers take for a command in a log: `##[` and `##vso[` for GitHub and Azure, `##teamcity[` for TeamCity."""
 
 MOST_NAMED = 12
 """How many names a message lists at most."""

@@ -11,6 +11,8 @@ from contextlib import suppress
 from types import TracebackType
 from typing import IO, TYPE_CHECKING, Any, NamedTuple
 
+from .attempts import attempted, cause
+
 if TYPE_CHECKING:
     import subprocess
 
@@ -22,12 +24,6 @@ class Lost(NamedTuple):
     """Why a file has no answer."""
 
     reason: str
-
-
-class Raised(NamedTuple):
-    """What a question raised."""
-
-    error: Exception
 
 
 def sendable(question: Callable[[str], Any]) -> Callable[[str], Any]:
@@ -69,25 +65,20 @@ class Workers:
         return child
 
     def ask(self, path: str) -> Any:
-        """The answer of the process of this thread; `Lost` where the file cannot be read, or the process ended.
-
-        What the question raised there is raised here.
-        """
+        """The answer of the process of this thread; `Lost` where the question raised something, or the process ended."""
         child = getattr(self.own, "child", None)
         try:
             if child is None:
                 child = self.own.child = self.started()
             send(child.stdin, path)
-            answer = taken(child.stdout)
-        except (OSError, EOFError, pickle.UnpicklingError):
+            return taken(child.stdout)
+        except Exception as error:
+            # What is left of an answer that cannot be read would be taken for the next one.
             self.own.child = None
             if child is not None:
                 end(child)
                 self.running.remove(child)
-            return Lost(ENDED)
-        if isinstance(answer, Raised):
-            raise answer.error
-        return answer
+            return Lost(ENDED if isinstance(error, (OSError, EOFError, pickle.UnpicklingError)) else cause(error))
 
 
 def send(stream: IO[bytes] | None, thing: object) -> None:
@@ -128,12 +119,5 @@ def answer_all() -> None:
 
 def answer_of(question: Callable[[str], Any], path: str) -> bytes:
     """The answer about one file, or why there is none, as it is sent."""
-    try:
-        return pickle.dumps(question(path))
-    except OSError as error:
-        return pickle.dumps(Lost((error.strerror or str(error)).lower()))
-    except Exception as error:
-        try:
-            return pickle.dumps(Raised(error))
-        except Exception:
-            return pickle.dumps(Raised(RuntimeError(repr(error))))
+    answer = attempted(question, path, lambda _, problem: Lost(problem))
+    return attempted(pickle.dumps, answer, lambda _, problem: pickle.dumps(Lost(problem)))

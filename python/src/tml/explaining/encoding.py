@@ -14,6 +14,9 @@ DECLARED = re.compile(rb"<\?xml[^>]{0,200}?encoding\s*=\s*[\"']([A-Za-z0-9._-]{1
 NAMED = re.compile(r"(<\?xml[^>]{0,200}?encoding\s*=\s*[\"'])[A-Za-z0-9._-]{1,40}")
 """A declaration up to the end of the name of the encoding."""
 
+LONGEST = 4
+"""How many bytes a character has at most in any encoding."""
+
 NAMES = {"iso8859-1": "Latin-1", "cp1252": "Windows-1252", "utf-16": "UTF-16"}
 """How an encoding is called."""
 
@@ -31,11 +34,11 @@ def not_utf8(source: Source, offset: int) -> Explanation:
         return Explanation()
     found = Explanation(start=offset, end=offset + 1)
     text = document.decode("utf-8", "surrogateescape")
-    wrong, byte = len(text) - len(ESCAPED.sub("", text)), document[offset]
+    wrong, byte = count(ESCAPED, text), document[offset]
     guess = guessed(document, text)
     if guess is not None:
         called = NAMES.get(guess, guess)
-        letter = f" ({bytes([byte]).decode(guess)} in {called})" if guess != "utf-16" else ""
+        letter = f" ({letter_at(document, offset, guess)} in {called})" if guess != "utf-16" else ""
         first = f"the byte {byte:02X}{letter} is" if wrong == 1 or not letter else f"{wrong} bytes, the first one {byte:02X}{letter}, are"
         found.text = f"{first} not UTF-8: the file looks like {called}; `tml-corpus fix` turns it into UTF-8"
     elif ends_within_character(document, offset):
@@ -47,20 +50,41 @@ def not_utf8(source: Source, offset: int) -> Explanation:
     return found
 
 
+def count(characters: re.Pattern[str], text: str) -> int:
+    """How many characters of a text match an expression for one."""
+    return len(text) - len(characters.sub("", text))
+
+
+def letter_at(document: bytes, offset: int, encoding: str) -> str:
+    """The character that a byte is in a document of an encoding, or begins, or goes on with."""
+    for end in range(offset + 1, offset + 1 + LONGEST):
+        with suppress(ValueError):
+            return document[:end].decode(encoding)[-1]
+    return document[offset : offset + 1].hex().upper()
+
+
 def guessed(document: bytes, text: str) -> str | None:
-    """The encoding that the file probably has, as Python calls it; None where other characters of it are UTF-8."""
+    """The encoding that the file probably has, as Python calls it; None where other characters of it are UTF-8.
+
+    In a declared encoding of several bytes for a character some of these are UTF-8 by chance, but most are not.
+    """
     if document.startswith((b"\xff\xfe", b"\xfe\xff")):
         return "utf-16"
-    if PROPER.search(text.removeprefix("\ufeff")) or ends_within_character(document, len(text.encode("utf-8", "surrogateescape")) - 3):
+    proper, declared = count(PROPER, text.removeprefix("\ufeff")), DECLARED.search(document[:1000])
+    if declared and 0 < proper < count(ESCAPED, text) and (called := decoding(document, declared[1].decode())):
+        return called if len(document.decode(called)) < len(document) else None
+    if proper or ends_within_character(document, len(text.encode("utf-8", "surrogateescape")) - 3):
         return None
-    declared = DECLARED.search(document[:1000])
-    for name in (declared[1].decode() if declared else "", "latin-1" if not re.search("[\udc80-\udc9f]", text) else "cp1252"):
-        try:
-            called = codecs.lookup(name).name
-            if called not in ("utf-8", "ascii") and document.decode(called).encode(called) == document:
-                return called
-        except (LookupError, ValueError):
-            continue
+    names = (declared[1].decode() if declared else "", "latin-1" if not re.search("[\udc80-\udc9f]", text) else "cp1252")
+    return next(filter(None, (decoding(document, name) for name in names)), None)
+
+
+def decoding(document: bytes, name: str) -> str | None:
+    """The name that Python has for an encoding, where that is another one than UTF-8 and the document can be of it."""
+    with suppress(LookupError, ValueError):
+        called = codecs.lookup(name).name
+        if called not in ("utf-8", "ascii") and document.decode(called).encode(called) == document:
+            return called
     return None
 
 

@@ -237,12 +237,6 @@ class Units(Sequence[Unit]):
         return found
 
 
-def units_of(program: Cutter, document: bytes) -> Units | None:
-    """The units of a document, or None where it cannot be cut into units whole (faults 1 to 3) or was not read."""
-    reply = program.spans(document)
-    return read_units(reply) if reply.status == 0 else None
-
-
 def read_units(reply: Printed) -> Units:
     """The units that the table has."""
     units, begin = Units(), 0

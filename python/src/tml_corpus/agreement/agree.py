@@ -14,9 +14,8 @@ from tml.results import Score
 from tml.statuses import TmlStatus
 
 from ..asking.program import ACCEPTED, CLASH, FAULT, CannotRun, Program, Reply
-from ..asking.room import NO_MEMORY, room_for
+from ..asking.room import room_for
 from ..clash.fitting import Fitting, fitting
-from ..command_line.statuses import ENDED
 from ..document.reduced import problem_of
 from ..document.words import Wording
 from ..files.finding import CannotRead, Found, find_files, read_document
@@ -126,26 +125,22 @@ def alone(found: list[Found], others: list[Found], folder: str, other_folder: st
 
 def pair_reports(run: Run, sides: Sides, found: Sequence[Found], wanted: Wanted) -> Iterator[PairReport]:
     """What became of each pair, in the order of the documents."""
+    return run.each(partial(compare, run.program, sides, wanted=wanted), found, partial(not_compared, sides))
 
-    def lost(one: Found) -> PairReport:
-        ended = NotCounted(one.path, NOT_JUDGED, ENDED)
-        return PairReport(sides.name_of(one.path), one.path, sides.key_of(one.path), not_counted=ended)
 
-    return run.each(partial(compare, run.program, sides, wanted=wanted), found, lost)
+def not_compared(sides: Sides, found: Found, problem: str) -> PairReport:
+    """The report on a pair with which something went wrong."""
+    not_counted = NotCounted(found.path, NOT_JUDGED, problem)
+    return PairReport(sides.name_of(found.path), found.path, sides.key_of(found.path), not_counted=not_counted)
 
 
 def compare(program: Program, sides: Sides, found: Found, wanted: Wanted) -> PairReport:
-    """Asks `tml score` about a pair. Whatever goes wrong with it is reported of it and ends nothing else."""
+    """Asks `tml score` about a pair."""
     report = PairReport(sides.name_of(found.path), found.path, sides.key_of(found.path))
-    try:
-        documents = read_pair(report, found.base)
-        if documents is not None:
-            with room_for(max(documents, key=len)):
-                compare_documents(program, report, documents, wanted)
-    except (CannotRead, CannotRun) as problem:
-        report.not_counted = NotCounted(report.path, NOT_JUDGED, str(problem))
-    except MemoryError:
-        report.not_counted = NotCounted(report.path, NOT_JUDGED, NO_MEMORY)
+    documents = read_pair(report, found.base)
+    if documents is not None:
+        with room_for(max(documents, key=len)):
+            compare_documents(program, report, documents, wanted)
     return report
 
 

@@ -30,10 +30,10 @@ class Corpus:
 
     def add(self, scores: Score) -> None:
         """Counts a pair."""
+        numbers, self.micro = {measure: as_numbers([getattr(scores, measure)]) for measure in MEASURES}, self.micro + scores
         self.pairs += 1
-        self.micro += scores
         for measure in MEASURES:
-            self.values[measure] += as_numbers([getattr(scores, measure)])
+            self.values[measure] += numbers[measure]
 
     def macro(self, measure: str) -> Mean:
         """The mean of a measure."""

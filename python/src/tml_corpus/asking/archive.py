@@ -6,10 +6,10 @@ Both packages have names there with a digest of all that is in it, so that a wor
 from __future__ import annotations
 
 import hashlib
+import io
 import os
 import pkgutil
 import re
-import tempfile
 import zipfile
 from functools import cache
 from pathlib import Path
@@ -20,6 +20,8 @@ from tml.library import Library
 from tml.running import CannotRun
 
 from ..files.finding import reason
+from ..files.replacing import replace_file
+from ..files.writing import folder_for_a_while
 from .batch import FAMILY, SHARED
 from .libraries import AtPath, Loadable
 
@@ -47,10 +49,10 @@ def library_in(package: str, digest: str) -> Library | None:
     if content is None or hashlib.sha256(content).hexdigest() != digest:
         return None
     try:
-        with tempfile.NamedTemporaryFile(suffix=LIBRARY) as file:
-            file.write(content)
-            file.flush()
-            return Library(file.name)
+        with folder_for_a_while() as folder:
+            path = os.path.join(folder, LIBRARY)
+            replace_file(path, content)
+            return Library(path)
     except (OSError, CannotRun):
         return None
 
@@ -64,12 +66,14 @@ def archive(folder: str, library: AtPath | None) -> tuple[str, str, Loadable | N
     sources = sources_of(FAMILY, Path(__file__).parents[1]) | sources_of(SHARED, Path(running.__file__).parent)
     digest = hashlib.sha256(repr((sources, content)).encode()).hexdigest()[:16]
     package, path = f"{FAMILY}_{digest}", os.path.join(folder, f"{FAMILY}_{digest}.zip")
-    with zipfile.ZipFile(path, "w") as file:
+    packed = io.BytesIO()
+    with zipfile.ZipFile(packed, "w") as file:
         for (family, name), source in sources.items():
             renamed = IMPORTED.sub(rb"\1%s_%s" % (SHARED.encode(), digest.encode()), source)
             file.writestr(zipfile.ZipInfo(f"{family}_{digest}/{name}"), renamed, zipfile.ZIP_DEFLATED)
         if content is not None:
             file.writestr(zipfile.ZipInfo(f"{package}/{LIBRARY}"), content, zipfile.ZIP_DEFLATED)
+    replace_file(path, packed.getvalue())
     if content is not None:
         return path, package, Sent(package, hashlib.sha256(content).hexdigest())
     return path, package, AtPath(library.path) if library is not None else None

@@ -9,8 +9,11 @@ from __future__ import annotations
 import io
 import pickle
 import re
+from collections.abc import Callable, Sequence
+from functools import partial
 from typing import Any
 
+from tml.attempts import attempted
 from tml.running import CannotRun
 
 FAMILY, SHARED = "tml_corpus", "tml"
@@ -41,8 +44,20 @@ def written(thing: object) -> bytes:
     return pickle.dumps(thing)
 
 
+def packed(results: Sequence[Any], given: Sequence[Any], failed: Callable[[Any, str], Any]) -> bytes:
+    """The bytes of the results of some work. Where one of them has none, that is a failure of what it was made of."""
+    try:
+        return written(results)
+    except Exception:
+        packable = [partial(lambda made, _: read(written(made)), result) for result in results]
+        return written([attempted(work, one, failed) for work, one in zip(packable, given, strict=False)])
+
+
 def do_batch(text: bytes) -> bytes:
-    """The results of a batch: the text has what is done before it, the work and the files. It runs on the worker."""
-    prepare, work, files = read(text)
+    """The results of a batch: the text has what is done before it, the work, what is made of failures, and the files.
+
+    It runs on the worker.
+    """
+    prepare, work, failed, files = read(text)
     prepare()
-    return written([work(file) for file in files])
+    return packed([attempted(work, file, failed) for file in files], files, failed)

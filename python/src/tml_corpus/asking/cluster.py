@@ -14,7 +14,6 @@ import os
 import pkgutil
 import shutil
 import sys
-import tempfile
 import time
 from collections import deque
 from collections.abc import Callable, Iterator, Sequence
@@ -24,7 +23,9 @@ from typing import TYPE_CHECKING, TypeVar
 
 from tml.finding import built_program
 
+from ..command_line.statuses import ENDED
 from ..files.finding import Found, counted
+from ..files.writing import folder_for_a_while
 from .archive import archive
 from .batch import read, written
 from .libraries import AtPath, Loadable
@@ -36,6 +37,7 @@ if TYPE_CHECKING:
 
 Result = TypeVar("Result")
 Work = Callable[[Found], Result]
+Failed = Callable[[Found, str], Result]
 
 BATCH = 16
 """How many files are a task."""
@@ -67,7 +69,7 @@ def connected(address: str, library: AtPath | None, stop: Interruption) -> Itera
         client = Client(address, timeout=ANSWERING)
     except (OSError, ValueError, TypeError) as error:
         raise CannotRun(f"no scheduler of a Dask cluster answers at {address}: {error}") from None
-    with client, tempfile.TemporaryDirectory() as folder:
+    with client, folder_for_a_while() as folder:
         cluster = Cluster(client, address)
         with cluster.needed():
             cluster.wait_for_a_worker(stop)
@@ -135,7 +137,7 @@ class Cluster:
         raise CannotRun(f"no program {name} at {at}: choose one that all of them see by --tml PROGRAM")
 
     def in_order(
-        self, work: Work[Result], files: Sequence[Found], stop: Interruption, lost: Callable[[Found], Result], prepare: Callable[[], None]
+        self, work: Work[Result], files: Sequence[Found], stop: Interruption, failed: Failed[Result], prepare: Callable[[], None]
     ) -> Iterator[Result]:
         """The results of the files in their order. After an interruption those that are there are reported, and the other tasks
         cancelled."""
@@ -144,7 +146,7 @@ class Cluster:
         with self.needed():
             while True:
                 while len(waiting) < self.room(stop) and (batch := list(islice(rest, BATCH))):
-                    waiting.append((batch, self.submit(work, batch)))
+                    waiting.append((batch, self.submit(work, failed, batch)))
                 if not waiting or not self.is_done(waiting[0][1], stop):
                     break
                 batch, future = waiting.popleft()
@@ -152,7 +154,7 @@ class Cluster:
                 if results is not None:
                     yield from results
                     continue
-                yield from self.one_by_one(work, batch, [other for _, other in waiting], stop, lost)
+                yield from self.one_by_one(work, failed, batch, [other for _, other in waiting], stop)
                 if stop.happened.is_set():
                     break
             self.client.cancel([future for _, future in waiting])
@@ -164,10 +166,10 @@ class Cluster:
         self.look()
         return AHEAD * max(self.threads, 1)
 
-    def submit(self, work: Work[Result], batch: list[Found]) -> Future:
+    def submit(self, work: Work[Result], failed: Failed[Result], batch: list[Found]) -> Future:
         """Gives a batch to the scheduler. The paths are those of this folder; earlier batches go before later ones."""
         there = [Found(file.path, file.problem, self.base) for file in batch]
-        return self.client.submit(self.do_batch, written((self.prepare, work, there)), pure=False, fifo_timeout="0 ms")
+        return self.client.submit(self.do_batch, written((self.prepare, work, failed, there)), pure=False, fifo_timeout="0 ms")
 
     def is_done(self, future: Future, stop: Interruption) -> bool:
         """Waits until a task is done, or for an interruption, and answers whether it is done."""
@@ -196,7 +198,7 @@ class Cluster:
             raise CannotRun(f"a worker of the cluster could not do its task: {type(error).__name__}: {error}") from None
 
     def one_by_one(
-        self, work: Work[Result], batch: list[Found], others: list[Future], stop: Interruption, lost: Callable[[Found], Result]
+        self, work: Work[Result], failed: Failed[Result], batch: list[Found], others: list[Future], stop: Interruption
     ) -> Iterator[Result]:
         """The results of a batch with which workers were lost, each file alone, so that only the one that ends workers has it in its
         report.
@@ -206,8 +208,8 @@ class Cluster:
         for other in others:
             self.is_done(other, stop)
         for file in batch:
-            future = self.submit(work, [file])
+            future = self.submit(work, failed, [file])
             if not self.is_done(future, stop):
                 self.client.cancel([future])
                 return
-            yield from self.results_of(future) or [lost(file)]
+            yield from self.results_of(future) or [failed(file, ENDED)]

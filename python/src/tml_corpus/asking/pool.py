@@ -17,10 +17,13 @@ import time
 from collections import deque
 from collections.abc import Callable, Iterator, Sequence
 from contextlib import suppress
+from functools import partial
 from typing import Any, Generic, NoReturn, TypeVar
 
-from tml.running import CannotRun, end_all
+from tml.attempts import attempted, cause
+from tml.running import STARTS, CannotRun, end_all
 
+from ..command_line.statuses import ENDED
 from ..files.finding import reason
 from ..files.writing import WRITING
 from .room import Room, SharedLock
@@ -100,16 +103,17 @@ def in_order(
     items: Sequence[Item],
     workers: int,
     stop: Interruption,
-    lost: Callable[[Item], Result],
+    failed: Callable[[Item, str], Result],
     prepare: Callable[[], None] = nothing,
 ) -> Iterator[Result]:
     """The results of the items in their order. After an interruption no item is begun; what was begun is still reported.
 
-    Where a process is ended from outside, as where it is out of memory, the items that it had are begun again one at a time, with
-    nothing beside them. The result of one that ends its process again is made by `lost`.
+    The result of an item at which the work raises anything is made by `failed`, of the item and the cause. Where a process is ended from
+    outside, as where it is out of memory, the items that it had are begun again one at a time, with nothing beside them. One that ends its
+    process again has failed too.
     """
     groups: Groups[Result] = Groups(len(items), workers)
-    with Crew(work, items, prepare) as crew:
+    with Crew(work, items, failed, prepare) as crew:
         crew.grow(min(workers, len(items)))
         while True:
             if not stop.happened.is_set():
@@ -118,7 +122,7 @@ def in_order(
             if not groups.go_on(stop.happened.is_set()):
                 return
             for group in crew.take(groups):
-                groups.break_up(group, lambda number: lost(items[number]))
+                groups.break_up(group, lambda number: failed(items[number], ENDED))
 
 
 class HasEnded(Exception):
@@ -238,7 +242,11 @@ class Worker(Generic[Result]):
         length, count, seconds = HEAD.unpack_from(self.answered)
         if len(self.answered) < HEAD.size + length:
             return None
-        results = unpickled(memoryview(self.answered)[HEAD.size :]) if length else [None] * count
+        results: Any = [None] * count
+        if length:
+            import pickle
+
+            results = pickle.loads(memoryview(self.answered)[HEAD.size :])
         self.answered = bytearray()
         if isinstance(results, Exception):
             raise results
@@ -263,8 +271,10 @@ class Worker(Generic[Result]):
 class Crew(Generic[Item, Result]):
     """The processes that do some work. They leave Ctrl-C to the program, and end where it is no more: the pipe that it holds is closed."""
 
-    def __init__(self, work: Callable[[Item], Result], items: Sequence[Item], prepare: Callable[[], None]) -> None:
-        self.work, self.items, self.prepare = work, items, prepare
+    def __init__(
+        self, work: Callable[[Item], Result], items: Sequence[Item], failed: Callable[[Item, str], Result], prepare: Callable[[], None]
+    ) -> None:
+        self.work, self.items, self.failed, self.prepare = work, items, failed, prepare
         self.starting: dict[int, Worker[Result]] = {}
         """Those that have not said yet that they are ready."""
         self.idle: list[Worker[Result]] = []
@@ -340,9 +350,36 @@ class Crew(Generic[Item, Result]):
                 os.close(handle)
             prepare_worker(self.watched, self.lock)
             os.write(answers, READY)
-            answer_all(told, answers, self.work, self.items, self.prepare)
+            self.answer_all(told, answers)
         finally:
             os._exit(1)
+
+    def answer_all(self, told: int, answers: int) -> None:
+        """Answers of all items that a process is told, until there are no more."""
+        problem = attempted(lambda prepare: prepare(), self.prepare, lambda _, problem: problem)
+        while message := os.read(told, PAIR.size):
+            first, count = PAIR.unpack(message)
+            rest = memoryview(self.answer_of(self.items[first : first + count], problem))
+            while rest:
+                rest = rest[os.write(answers, rest) :]
+
+    def answer_of(self, group: Sequence[Item], problem: str | None) -> bytes:
+        """The answer of some items, or a problem that ends the run."""
+        try:
+            if problem is not None:
+                raise CannotRun(problem)
+            results, seconds = do_group(partial(attempted, self.work, failed=self.failed), group)
+            if all(result is None for result in results):
+                return HEAD.pack(0, len(results), seconds)
+            from .batch import packed
+
+            answer = packed(results, group, self.failed)
+            return HEAD.pack(len(answer), 0, seconds) + answer
+        except Exception as error:
+            from .batch import written
+
+            answer = written(CannotRun(cause(error)))
+            return HEAD.pack(len(answer), 0, 0.0) + answer
 
     def give(self, groups: Groups[Result]) -> None:
         """Gives each process that has nothing to do the next items, as far as there are any."""
@@ -412,65 +449,17 @@ def prepare_worker(watched: int, lock: SharedLock) -> None:
     gc.freeze()
     Room.share(lock)
 
-    def watch() -> None:
-        os.read(watched, 1)
+    def end_now() -> None:
         end_all()
         with WRITING:
             os._exit(1)
 
+    def watch() -> None:
+        os.read(watched, 1)
+        # A program that is just being started is waited for.
+        STARTS.after(end_now)
+
     threading.Thread(target=watch, daemon=True).start()
-
-
-def answer_all(told: int, answers: int, work: Callable[[Any], Any], items: Sequence[Any], prepare: Callable[[], None]) -> None:
-    """Answers of all items that a process is told, until there are no more."""
-    problem: Exception | None = None
-    try:
-        prepare()
-    except Exception as error:
-        problem = error
-    while message := os.read(told, PAIR.size):
-        first, count = PAIR.unpack(message)
-        try:
-            if problem is not None:
-                raise problem
-            results, seconds = do_group(work, items[first : first + count])
-            answer = HEAD.pack(0, len(results), seconds)
-            if any(result is not None for result in results):
-                answer = with_head(pickled(results), seconds)
-        except Exception as error:
-            answer = with_head(portable(error), 0.0)
-        rest = memoryview(answer)
-        while rest:
-            rest = rest[os.write(answers, rest) :]
-
-
-def with_head(answer: bytes, seconds: float) -> bytes:
-    """An answer with what stands before it."""
-    return HEAD.pack(len(answer), 0, seconds) + answer
-
-
-def portable(error: Exception) -> bytes:
-    """An error as it can be sent: itself, or what there is to say of it."""
-    try:
-        answer = pickled(error)
-        unpickled(answer)
-    except Exception:
-        return pickled(CannotRun(f"{type(error).__name__}: {error}"))
-    return answer
-
-
-def pickled(thing: object) -> bytes:
-    """The bytes of a thing."""
-    import pickle
-
-    return pickle.dumps(thing)
-
-
-def unpickled(text: bytes | memoryview) -> Any:
-    """The thing that has these bytes."""
-    import pickle
-
-    return pickle.loads(text)
 
 
 def do_group(work: Callable[[Item], Result], items: Sequence[Item]) -> tuple[list[Result], float]:

@@ -11,8 +11,7 @@ from contextlib import AbstractContextManager, contextmanager
 from tml.running import CannotRun
 from tml.statuses import MANY_BYTES
 
-NO_MEMORY = "no memory to take the document apart"
-"""What is said of a document for which there is too little memory."""
+from ..files.finding import Found, read_document
 
 
 class SharedLock:
@@ -70,3 +69,11 @@ def room_for(document: bytes) -> Iterator[None]:
         return
     with Room.lock():
         yield
+
+
+@contextmanager
+def document_of(found: Found) -> Iterator[bytes]:
+    """The document of a file, read, with room for it."""
+    document = read_document(found.place())
+    with room_for(document):
+        yield document

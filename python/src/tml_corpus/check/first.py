@@ -7,9 +7,9 @@ from collections.abc import Iterator, Sequence
 from functools import partial
 from typing import IO, TYPE_CHECKING
 
-from ..asking.program import ACCEPTED, FAULT, CannotRun, Program, Reply
-from ..asking.room import NO_MEMORY, room_for
-from ..files.finding import CannotRead, Found, opened, read_document, read_open
+from ..asking.program import ACCEPTED, FAULT, Program, Reply
+from ..asking.room import room_for
+from ..files.finding import Found, opened, read_document, read_open
 from ..lint.kinds import Lint
 from .judgement import Judgement, problem_of
 
@@ -18,21 +18,19 @@ if TYPE_CHECKING:
 
 
 def judge(program: Program, found: Found, explained: bool, more: int, lint: Lint | None = None) -> Judgement:
-    """Asks `tml` about one file. Whatever goes wrong with the file is reported of it and ends nothing else."""
-    if found.problem is not None:
-        return Judgement(found.path, problem=found.problem)
-    try:
-        reply, document = first_reply(program, found.place(), lint)
-        if document is None:
-            return Judgement(found.path, problem=problem_of(reply) if reply is not None else None)
-        from .judging import judge_document
+    """Asks `tml` about one file."""
+    reply, document = first_reply(program, found.place(), lint)
+    if document is None:
+        return Judgement(found.path, problem=problem_of(reply) if reply is not None else None)
+    from .judging import judge_document
 
-        with room_for(document):
-            return judge_document(program, found.path, document, explained, more, lint, reply)
-    except (CannotRead, CannotRun) as problem:
-        return Judgement(found.path, problem=str(problem))
-    except MemoryError:
-        return Judgement(found.path, problem=NO_MEMORY)
+    with room_for(document):
+        return judge_document(program, found.path, document, explained, more, lint, reply)
+
+
+def not_judged(found: Found, problem: str) -> Judgement:
+    """The judgement of a file with which something went wrong."""
+    return Judgement(found.path, problem=problem)
 
 
 def first_reply(program: Program, place: str, lint: Lint | None) -> tuple[Reply | None, bytes | None]:
@@ -69,7 +67,4 @@ def judgement_to_send(program: Program, found: Found, explained: bool, more: int
 
 def judgements(run: Run, found: Sequence[Found], explained: bool, more: int, lint: Lint | None) -> Iterator[Judgement | None]:
     """The judgements of some files in their order; of one that is accepted, and of which there is nothing to say, None."""
-    from ..command_line.statuses import ENDED
-
-    work = partial(judgement_to_send, run.program, explained=explained, more=more, lint=lint)
-    return run.each(work, found, lambda one: Judgement(one.path, problem=ENDED))
+    return run.each(partial(judgement_to_send, run.program, explained=explained, more=more, lint=lint), found, not_judged)

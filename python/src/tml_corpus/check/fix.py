@@ -4,7 +4,6 @@ from __future__ import annotations
 
 from collections.abc import Callable, Iterable, Iterator
 from dataclasses import dataclass, field
-from functools import partial
 from itertools import chain, islice
 
 from tml.explaining import faults
@@ -18,9 +17,9 @@ from tml.tags.cutting import units_of_whole
 from tml.tags.edits import Edit, applied
 from tml.tags.source import Explanation, Source
 
-from ..asking.looking import looked_at
 from ..asking.program import FAULT, CannotRun, Program
-from ..files.finding import Found, counted, shown
+from ..asking.room import document_of
+from ..files.finding import CannotRead, Found, counted, shown
 from ..files.replacing import replace_file
 from ..lint.kinds import Lint
 from ..lint.warnings import warnings_of
@@ -98,16 +97,10 @@ class FixReport:
 
 def fix(program: Program, found: Found, writes: bool) -> FixReport:
     """Mends one file, in memory or where that is wanted in its place."""
-    if found.problem is not None:
-        return not_mended(found, found.problem)
     if found.is_found_link():
-        return not_mended(found, FOUND_LINK)
-    return looked_at(found.place(), partial(fixed_at, program, found, writes), partial(not_mended, found))
-
-
-def fixed_at(program: Program, found: Found, writes: bool, document: bytes) -> FixReport:
-    """The same of a file that was read."""
-    fixed = mended(program, document)
+        raise CannotRead(FOUND_LINK)
+    with document_of(found) as document:
+        fixed = mended(program, document)
     if writes and fixed.changes:
         write(fixed, found)
     return FixReport(report(found.path, fixed, writes), bool(fixed.changes), fixed.left is not None)

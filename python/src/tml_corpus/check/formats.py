@@ -32,8 +32,9 @@ class WarningCounts:
     def add(self, judgement: Judgement) -> None:
         """Counts the warnings of one file."""
         names = [warning.name for warning in judgement.warnings]
+        ranks = {is_mistake(name) for name in names}
         self.kinds.update(names)
-        self.ranks.update({is_mistake(name) for name in names})
+        self.ranks.update(ranks)
         self.files += bool(names)
 
     def lines(self) -> list[str]:
@@ -65,15 +66,16 @@ class Summary:
         self.warnings = WarningCounts()
 
     def add(self, judgement: Judgement) -> None:
-        """Counts one file."""
-        self.accepted += judgement.accepted()
+        """Counts one file: wholly, or not at all where something is raised, which comes first."""
+        is_accepted, first = judgement.accepted(), judgement.faults[0].fault if judgement.faults else None
+        title = first.title() if first is not None else ""
+        self.warnings.add(judgement)
+        self.accepted += is_accepted
         self.problems += judgement.problem is not None
         self.further += max(len(judgement.faults) - 1, 0)
         self.consequences += sum(fault.perhaps_consequence for fault in judgement.faults)
-        self.warnings.add(judgement)
-        if judgement.faults:
-            first = judgement.faults[0].fault
-            self.first_faults[first.number, first.title()] += 1
+        if first is not None:
+            self.first_faults[first.number, title] += 1
 
     def add_plain(self) -> None:
         """Counts one file that is accepted, and of which there is nothing to say."""

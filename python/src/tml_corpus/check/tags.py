@@ -4,7 +4,6 @@ from __future__ import annotations
 
 import re
 from dataclasses import dataclass, field
-from functools import partial
 
 from tml.explaining.faults import BAD_MARKUP, UNKNOWN_TAG, read_fault
 from tml.places import Place, Places
@@ -12,8 +11,8 @@ from tml.statuses import DOCUMENT_LIMIT
 from tml.tags.source import cut as shortened
 from tml.tags.units import read_units
 
-from ..asking.looking import looked_at
 from ..asking.program import FAULT, Program, Reply
+from ..asking.room import document_of
 from ..files.finding import Found, shown
 
 MOST_BLANKS = 100
@@ -42,20 +41,19 @@ class Names:
 
 def names_in(program: Program, found: Found) -> Names:
     """The names of the start and empty tags of a file, also where it has faults."""
-    if found.problem is not None:
-        return Names(found.path, problem=found.problem)
-    return looked_at(found.path, partial(names_of, program, found.path), lambda problem: Names(found.path, problem=problem))
-
-
-def names_of(program: Program, path: str, document: bytes) -> Names:
-    """The names in a document."""
-    reply, remark = cut(program, document)
-    if reply.status != 0:
-        return Names(path, problem=reply.problem())
-    names, places = Names(path, remark=remark), Places(document)
-    for name, (count, first) in read_units(reply).counts().items():
-        names.add(shortened(name), count, places.place(first))
+    with document_of(found) as document:
+        reply, remark = cut(program, document)
+        if reply.status != 0:
+            return Names(found.path, problem=reply.problem())
+        names, places = Names(found.path, remark=remark), Places(document)
+        for name, (count, first) in read_units(reply).counts().items():
+            names.add(shortened(name), count, places.place(first))
     return names
+
+
+def skipped(found: Found, problem: str) -> Names:
+    """What there is of a file with which something went wrong."""
+    return Names(found.path, problem=problem)
 
 
 def cut(program: Program, document: bytes) -> tuple[Reply, str | None]:
@@ -107,10 +105,11 @@ class Table:
         """The names, the frequent ones first."""
         return sorted(self.counts, key=lambda name: (-self.counts[name], name))
 
-    def text(self, known: dict[str, bool]) -> str:
+    def text(self, known: dict[str, bool | str]) -> str:
         """A line for each name: those that `tml` does not know first, with their first place."""
         lines = [f"{'count':>9} {'files':>7}  tag"]
-        for name in sorted(self.names(), key=lambda name: known.get(name, False)):
-            words = {True: "", False: f"  unknown, first at {self.firsts[name]}", None: "  not asked"}[known.get(name)]
-            lines.append(f"{self.counts[name]:9} {self.files[name]:7}  {shown(name)}{words}")
+        for name in sorted(self.names(), key=lambda name: known.get(name, False) is True):
+            said = known.get(name, "not asked")
+            words = said if isinstance(said, str) else "" if said else f"unknown, first at {self.firsts[name]}"
+            lines.append(f"{self.counts[name]:9} {self.files[name]:7}  {shown(name)}{words and '  ' + words}")
         return "".join(line + "\n" for line in lines)

@@ -4,16 +4,14 @@ from __future__ import annotations
 
 import os
 import re
-from collections.abc import Iterator, Sequence
-from contextlib import contextmanager
+from collections.abc import Sequence
 from typing import NamedTuple
 
 from tml.lines import Step
 from tml.replies import kind_of
 
-from ..asking.program import ACCEPTED, CannotRun, File, Program, Reply
-from ..files.finding import CannotRead, reason
-from ..files.replacing import written
+from ..asking.program import ACCEPTED, CannotRun, Program, Reply
+from ..files.replacing import replace_file
 
 
 class Clash(NamedTuple):
@@ -47,12 +45,13 @@ def is_timeline(reply: Reply) -> bool:
 
 
 def verify_clash(program: Program, document: bytes, clash: Clash, kept: str | None = None) -> None:
-    """Has `tml verify` judge a clash. Its evidence stays where a name of a file is given for it."""
-    with evidence_file(clash.evidence, kept) as evidence:
-        judged = program.ask(["verify", "-"], document, evidence)
+    """Has `tml verify` judge a clash. Its evidence is kept where a name of a file is given for it."""
+    judged = program.ask(["verify", "-"], document, clash.evidence)
     if judged.status != ACCEPTED or judged.text != b"verified clash %s\n" % b" ".join(b"%d" % link for link in clash.links):
         said = judged.text.decode("utf-8", "replace").strip()
         raise CannotRun(f"tml verify refused the evidence of tml solve: {said}")
+    if kept is not None:
+        replace_file(kept, clash.evidence, top=os.path.dirname(kept))
 
 
 def verify_timeline(program: Program, document: bytes, timeline: Reply) -> None:
@@ -66,22 +65,6 @@ def verify_ranks(program: Program, document: bytes, timeline: bytes, called: str
     if judged.status != ACCEPTED or judged.text != b"verified timeline\n":
         said = judged.text.decode("utf-8", "replace").strip()
         raise CannotRun(f"tml verify did not accept {called}: {said}")
-
-
-@contextmanager
-def evidence_file(evidence: bytes, kept: str | None) -> Iterator[File]:
-    """The evidence as a file of a question: where a name is given the open file of this name, which stays."""
-    if kept is None:
-        yield evidence
-        return
-    try:
-        with written(kept) as target:
-            target.write(evidence)
-        file = open(kept, "rb")
-    except OSError as error:
-        raise CannotRead(f"its evidence cannot be kept: {reason(error)}") from None
-    with file:
-        yield file
 
 
 def evidence_name(path: str) -> str:

@@ -6,10 +6,10 @@ from collections.abc import Iterator, Sequence
 from functools import partial
 from typing import TYPE_CHECKING
 
-from ..asking.program import CannotRun, Program
-from ..asking.room import NO_MEMORY, room_for
+from ..asking.program import Program
+from ..asking.room import room_for
 from ..check.judgement import Judgement
-from ..files.finding import CannotRead, Found, read_document
+from ..files.finding import Found, read_document
 from .clashes import is_timeline
 from .report import ClashReport, Wanted
 
@@ -18,28 +18,23 @@ if TYPE_CHECKING:
 
 
 def find_clashes(program: Program, found: Found, wanted: Wanted) -> ClashReport:
-    """Asks about the fault and the clashes of one file. Whatever goes wrong with it is reported of it and ends nothing else.
+    """Asks about the fault and the clashes of one file. It is read once, and `tml solve` is asked first, which tells a fault too."""
+    document = read_document(found.place())
+    reply = program.ask(["solve", "-"], document)
+    fits = is_timeline(reply)
+    if fits and wanted.lint is None:
+        return ClashReport(Judgement(found.path))
+    from .search import report_of, report_of_fitting
 
-    It is read once, and `tml solve` is asked first, which tells a fault too.
-    """
-    if found.problem is not None:
-        return ClashReport(Judgement(found.path, problem=found.problem))
-    try:
-        document = read_document(found.place())
-        reply = program.ask(["solve", "-"], document)
-        fits = is_timeline(reply)
-        if fits and wanted.lint is None:
-            return ClashReport(Judgement(found.path))
-        from .search import report_of, report_of_fitting
+    with room_for(document):
+        if fits:
+            return report_of_fitting(program, found, document, wanted)
+        return report_of(program, found, document, wanted, reply)
 
-        with room_for(document):
-            if fits:
-                return report_of_fitting(program, found, document, wanted)
-            return report_of(program, found, document, wanted, reply)
-    except (CannotRead, CannotRun) as problem:
-        return ClashReport(Judgement(found.path, problem=str(problem)))
-    except MemoryError:
-        return ClashReport(Judgement(found.path, problem=NO_MEMORY))
+
+def not_judged(found: Found, problem: str) -> ClashReport:
+    """The report on a file with which something went wrong."""
+    return ClashReport(Judgement(found.path, problem=problem))
 
 
 def clashes_to_send(program: Program, found: Found, wanted: Wanted) -> ClashReport | None:
@@ -50,7 +45,4 @@ def clashes_to_send(program: Program, found: Found, wanted: Wanted) -> ClashRepo
 
 def clash_reports(run: Run, found: Sequence[Found], wanted: Wanted) -> Iterator[ClashReport | None]:
     """The reports on some files in their order; of one that some timeline fits, and of which there is nothing to say, None."""
-    from ..command_line.statuses import ENDED
-
-    work = partial(clashes_to_send, run.program, wanted=wanted)
-    return run.each(work, found, lambda one: ClashReport(Judgement(one.path, problem=ENDED)))
+    return run.each(partial(clashes_to_send, run.program, wanted=wanted), found, not_judged)

@@ -2,7 +2,11 @@
 
 from __future__ import annotations
 
+from collections.abc import Callable
 from dataclasses import dataclass, replace
+from typing import TextIO
+
+from tml.attempts import attempted
 
 from ..asking.program import ACCEPTED, CLASH, FAULT, CannotRun, Program, Reply
 from ..check.formats import make_format
@@ -71,6 +75,15 @@ def links_of(program: Program, path: str, document: bytes, undone: str, touching
     return replace(again, text=text + again.text)
 
 
-def not_judged(path: str, problem: Exception) -> Unfit:
-    """What is said of a document that cannot be read, or of which `tml` cannot be asked."""
-    return Unfit(f"{shown(path)}: not judged: {shown(str(problem))}\n", Status.TROUBLE)
+def not_judged(path: str, problem: str) -> Unfit:
+    """What is said of a document with which something went wrong."""
+    return Unfit(f"{shown(path)}: not judged: {shown(problem)}\n", Status.TROUBLE)
+
+
+def status_of(show: Callable[[str], Unfit | int], path: str, apart: TextIO) -> int:
+    """Shows something of one document, and answers the status. Where there is nothing to show it prints what is said of that."""
+    done = attempted(show, path, not_judged)
+    if isinstance(done, Unfit):
+        apart.write(done.text)
+        return done.status
+    return done

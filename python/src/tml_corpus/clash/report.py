@@ -156,18 +156,17 @@ class ClashSummary:
         self.warnings = WarningCounts()
 
     def add(self, report: ClashReport) -> None:
-        """Counts one file."""
-        verdict = report.verdict()
+        """Counts one file: wholly, or not at all where something is raised, which comes first."""
+        verdict, faults = report.verdict(), report.judgement.faults
+        first = (faults[0].fault.number, faults[0].fault.title()) if faults else None
+        self.warnings.add(report.judgement)
         self.verdicts[verdict] = self.verdicts.get(verdict, 0) + 1
-        faults = report.judgement.faults
-        if faults:
-            first = (faults[0].fault.number, faults[0].fault.title())
+        if first is not None:
             self.first_faults[first] = self.first_faults.get(first, 0) + 1
         self.further_faults += max(len(faults) - 1, 0)
         self.further_clashes += max(len(report.clashes) - 1, 0)
         self.changes += len(report.touching)
         self.changed_files += bool(report.touching)
-        self.warnings.add(report.judgement)
 
     def add_plain(self) -> None:
         """Counts one file that a timeline fits and of which there is nothing to say."""

@@ -47,16 +47,25 @@ def html_entities() -> "NoReturn":
 
 
 def launch(program: str) -> "NoReturn":
-    """Runs a program, and ends Python with the status that it answers."""
+    """Runs a program, and ends Python with the status that it answers.
+
+    While modules are imported an interruption ends it at once: raised in an import it would be lost, or shown with all that was under way.
+    """
     name = os.path.basename(sys.argv[0])
-    # It is made while there is memory for it.
-    no_memory = os.fsencode(f"{name}: out of memory\n")
+    # They are made while there is memory for them.
+    no_memory, interrupted = os.fsencode(f"{name}: out of memory\n"), os.fsencode(f"{name}: interrupted\n")
     try:
+        signals = __import__("_signal")
+        before = signals.getsignal(signals.SIGINT)
+        if before is signals.default_int_handler:
+            signals.signal(signals.SIGINT, lambda *_: give_up(interrupted, 130))
         from importlib import import_module
 
-        status = import_module(MODULES[program]).main()
+        main = import_module(MODULES[program]).main
+        signals.signal(signals.SIGINT, before)
+        status = main()
     except KeyboardInterrupt:
-        status = 130
+        give_up(interrupted, 130)
     except MemoryError:
         give_up(no_memory)
     except Exception as problem:
@@ -64,9 +73,9 @@ def launch(program: str) -> "NoReturn":
     sys.exit(status)
 
 
-def give_up(line: bytes) -> "NoReturn":
+def give_up(line: bytes, status: int = 2) -> "NoReturn":
     """Ends with one line and status 2: Python itself would end with status 1, which says that something was found."""
     try:
         os.write(2, line)
     finally:
-        os._exit(2)
+        os._exit(status)

@@ -16,10 +16,12 @@ from collections.abc import Callable, Sequence
 from contextlib import suppress
 from typing import Any, NoReturn
 
-from tml.running import CannotRun
+from tml.attempts import cause
+from tml.running import Expected
 
 from .. import VERSION
 from ..files.finding import CannotRead, reason, shown
+from ..files.writing import end_by_signals
 from .statuses import Status
 
 INPUT, OUTPUT, ERROR = range(3)
@@ -32,8 +34,8 @@ CLOSED: set[int] = set()
 """The streams that were closed when the program began."""
 
 
-class CannotWrite(Exception):
-    """Standard output takes no more."""
+class CannotWrite(BaseException):
+    """Standard output takes no more. That is nothing of the file that is worked on, and so no `Exception`."""
 
 
 class ReaderGone(CannotWrite):
@@ -121,6 +123,7 @@ class ProgramParser(Parser):
 def run(work: Callable[[list[str]], int], words: Sequence[str] | None = None) -> int:
     """Runs a program with some words, or those of the command line, and answers its status."""
     open_streams()
+    end_by_signals()
     try:
         try:
             if OUTPUT in CLOSED:
@@ -131,18 +134,15 @@ def run(work: Callable[[list[str]], int], words: Sequence[str] | None = None) ->
         sys.stdout.flush()
         return status
     except KeyboardInterrupt:
-        return Status.INTERRUPTED
+        return complain("interrupted", Status.INTERRUPTED)
     except ReaderGone:
         return Status.TROUBLE
-    except (CannotWrite, CannotRun, CannotRead) as problem:
+    except (CannotWrite, Expected) as problem:
         return complain(str(problem))
     except MemoryError:
         return complain("out of memory")
     except Exception as error:
-        import traceback
-
-        place = traceback.extract_tb(error.__traceback__)[-1]
-        return complain(f"{type(error).__name__}: {error} ({os.path.basename(place.filename)}:{place.lineno})")
+        return complain(cause(error))
     finally:
         silence()
 
@@ -185,7 +185,7 @@ def open_streams() -> None:
 
 def silence() -> None:
     """Flushes standard output, or lets go what it does not take, so that nothing fails when Python ends."""
-    with suppress(Exception):
+    with suppress(Exception, CannotWrite):
         sys.stdout.flush()
         return
     null = os.open(os.devnull, os.O_WRONLY)

@@ -9,6 +9,8 @@ import sys
 from collections.abc import Callable, Iterator, Sequence
 from typing import TYPE_CHECKING, Any, NamedTuple, TypeVar
 
+from tml.attempts import attempted
+
 from ..asking.pool import Interruption
 from ..files.finding import PATTERNS, Found, find_files
 from ..files.standard_input import StandardInput, find_with
@@ -53,17 +55,19 @@ class Run(NamedTuple):
         """Whether it is to end."""
         return self.stop.happened.is_set()
 
-    def each(self, work: Callable[[Found], Result], found: Sequence[Found], lost: Callable[[Found], Result]) -> Iterator[Result]:
-        """The results of some work on files, in their order; `lost` makes that of a file with which a process ended."""
-        yield from self.in_order(work, found, stop=self.stop, lost=lost)
+    def each(self, work: Callable[[Found], Result], found: Sequence[Found], failed: Callable[[Found, str], Result]) -> Iterator[Result]:
+        """The results of some work on files, in their order; `failed` makes that of a file at which it raised something, of the cause."""
+        yield from self.in_order(work, found, stop=self.stop, failed=failed)
 
 
-def print_each(found: Sequence[Found], results: Iterator[Result], report: Callable[[Found, Result], str]) -> None:
-    """Prints of each file what there is to report, in the order of the files."""
+def print_each(
+    found: Sequence[Found], results: Iterator[Result], report: Callable[[Found, Result], str], failed: Callable[[Found, str], Result]
+) -> None:
+    """Prints of each file what there is to report, in the order of the files. Where that cannot be said, it prints why."""
     progress = Progress(len(found), "files")
     try:
         for result, one in zip(results, found, strict=False):
-            text = report(one, result)
+            text = attempted(lambda file: report(file, result), one, lambda file, problem: report(file, failed(file, problem)))
             if text:
                 progress.clear()
                 sys.stdout.write(text)

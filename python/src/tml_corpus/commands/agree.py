@@ -3,9 +3,10 @@
 from __future__ import annotations
 
 import sys
+from functools import partial
 from typing import NamedTuple
 
-from ..agreement.agree import PairReport, Wanted, find_pairs, pair_reports, sides_of
+from ..agreement.agree import PairReport, Wanted, find_pairs, not_compared, pair_reports, sides_of
 from ..agreement.formats import Summary, make_format, printed
 from ..asking.program import CannotRun
 from ..command_line.run import Run, print_each, print_summary
@@ -30,11 +31,12 @@ def command(run: Run, options: Options) -> int:
     pairs, wanted = find_pairs(sides, run.files.patterns), Wanted(options.links, options.touching)
 
     def reported(_: Found, report: PairReport) -> str:
+        text = printed(form, report)
         summary.add(report)
-        return printed(form, report)
+        return text
 
     sys.stdout.write(form.start())
-    print_each(pairs.found, pair_reports(run, sides, pairs.found, wanted), reported)
+    print_each(pairs.found, pair_reports(run, sides, pairs.found, wanted), reported, partial(not_compared, sides))
     for one in pairs.not_counted:
         summary.leave_out(one)
         sys.stdout.write(form.not_counted(one))

@@ -7,7 +7,7 @@ from collections.abc import Sequence
 from typing import TYPE_CHECKING, NamedTuple
 
 from ..asking.program import CannotRun
-from ..check.first import judgements
+from ..check.first import judgements, not_judged
 from ..check.formats import Summary, make_format
 from ..check.judgement import Judgement
 from ..command_line.run import Run, print_each, print_summary
@@ -57,10 +57,11 @@ def command(run: Run, options: Options) -> int:
             return form.plain(one.path)
         if baseline is not None:
             baseline.apply(judgement)
+        text = form.file(judgement)
         summary.add(judgement)
-        return form.file(judgement)
+        return text
 
-    print_each(found, judgements(run, found, options.explain, options.more, lint), reported)
+    print_each(found, judgements(run, found, options.explain, options.more, lint), reported, not_judged)
     sys.stdout.write(form.end(summary))
     of_baseline = baseline.finish(run.is_interrupted()) if baseline is not None else ""
     print_summary(run, form.summary_apart, summary.text(run.is_interrupted()) + of_baseline)

@@ -2,16 +2,15 @@
 
 from __future__ import annotations
 
-import os
 import sys
 from typing import TYPE_CHECKING, NamedTuple
 
-from ..asking.program import CannotRun
-from ..clash.first import clash_reports
+from ..clash.first import clash_reports, not_judged
 from ..clash.formats import make_format
 from ..clash.report import ClashReport, ClashSummary, Wanted
 from ..command_line.run import Run, print_each, print_summary
-from ..files.finding import Found, reason
+from ..files.finding import Found
+from ..files.replacing import make_folder
 
 if TYPE_CHECKING:
     from ..check.baseline import Baseline
@@ -33,10 +32,7 @@ class Options(NamedTuple):
 def command(run: Run, options: Options) -> int:
     """Prints the links that contradict each other, and answers the status."""
     if options.evidence is not None:
-        try:
-            os.makedirs(options.evidence, exist_ok=True)
-        except (OSError, ValueError) as error:
-            raise CannotRun(f"the folder {options.evidence} cannot be made: {reason(error)}") from None
+        make_folder(options.evidence)
     every_clash = options.format in JSON or options.evidence is not None
     wanted = Wanted(options.evidence, options.touching, options.more, options.repair, every_clash=every_clash)
     return show_clashes(run, options.format, wanted)
@@ -56,10 +52,11 @@ def show_clashes(
             return form.plain(one.path)
         if baseline is not None:
             baseline.apply(report.judgement)
+        text = form.file(report)
         summary.add(report)
-        return form.file(report)
+        return text
 
-    print_each(found, clash_reports(run, found, wanted), reported)
+    print_each(found, clash_reports(run, found, wanted), reported, not_judged)
     sys.stdout.write(form.end(summary))
     of_baseline = baseline.finish(run.is_interrupted()) if baseline is not None else ""
     print_summary(run, form.summary_apart, summary.text(run.is_interrupted()) + of_baseline)

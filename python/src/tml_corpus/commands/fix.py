@@ -9,7 +9,7 @@ from typing import NamedTuple
 
 from ..check.fix import FixReport, fix, not_mended
 from ..command_line.run import Run, print_each
-from ..command_line.statuses import ENDED, Status
+from ..command_line.statuses import Status
 from ..files.finding import Found, counted
 
 
@@ -31,7 +31,7 @@ def command(run: Run, options: Options) -> int:
         return report.text
 
     work = partial(fix, run.program, writes=options.write)
-    print_each(found, run.each(work, found, lambda one: not_mended(one, ENDED)), reported)
+    print_each(found, run.each(work, found, not_mended), reported, not_mended)
     changed, left, problems = reports["changed"], reports["left"], reports["problem"]
     done = "mended" if options.write else "can be mended (--write does it)"
     sys.stdout.write(f"{counted(len(found), 'file')}: {changed} {done}, {left} still faulty, {problems} skipped\n")

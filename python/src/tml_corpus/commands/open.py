@@ -6,7 +6,7 @@ import os
 from typing import NamedTuple
 
 from ..command_line.run import Run
-from ..files.finding import find_files
+from ..files.finding import Found, find_files
 from ..matrix.show_open import Bounds, show_open, show_open_of_all
 
 
@@ -25,4 +25,4 @@ def command(run: Run, options: Options) -> int:
     if os.path.isdir(options.document):
         found = find_files([options.document], run.files.patterns)
         return show_open_of_all(run.program, found, bounds, options.touching, run.in_order, run.stop)
-    return show_open(run.program, options.document, bounds, options.touching, run.in_order, run.stop)
+    return show_open(run.program, Found(options.document), bounds, options.touching, run.in_order, run.stop)

@@ -9,7 +9,7 @@ from ..clash.report import ClashSummary, Wanted
 from ..command_line.run import Run, print_each
 from ..files.finding import Found, shown
 from ..lint.kinds import chosen
-from ..pages.report import Folder, Reported, reported_files
+from ..pages.report import Folder, Reported, reported_files, without_page
 
 
 class Options(NamedTuple):
@@ -27,11 +27,12 @@ def command(run: Run, options: Options) -> int:
     summary = ClashSummary(len(found), checked=True, lint=True)
 
     def reported(_: Found, one: Reported) -> str:
-        summary.add(one.report)
         problem = one.report.judgement.problem
-        return f"{shown(one.entry.path)}: not judged: {shown(problem)}\n" if problem is not None else ""
+        text = f"{shown(one.entry.path)}: not judged: {shown(problem)}\n" if problem is not None else ""
+        summary.add(one.report)
+        return text
 
-    print_each(found, reported_files(run, folder, found, wanted), reported)
+    print_each(found, reported_files(run, folder, found, wanted), reported, without_page)
     folder.write_index(len(found))
     sys.stdout.write(summary.text(run.is_interrupted()) + folder.last_line())
     return summary.status()

@@ -6,9 +6,9 @@ import sys
 from functools import partial
 from typing import NamedTuple
 
-from ..check.tags import MOST_NAMES, Names, Table, is_known, names_in
+from ..check.tags import MOST_NAMES, Names, Table, is_known, names_in, skipped
 from ..command_line.run import Run, print_each
-from ..command_line.statuses import ENDED, Status
+from ..command_line.statuses import Status
 from ..files.finding import Found, counted, shown
 
 
@@ -23,14 +23,15 @@ def command(run: Run, options: Options) -> int:
 
     def reported(_: Found, names: Names) -> str:
         nonlocal problems
+        remark = f"skipped: {names.problem}" if names.problem else names.remark
+        text = f"{shown(names.path)}: {shown(remark)}\n" if remark else ""
         table.add(names)
         problems += names.problem is not None
-        remark = f"skipped: {names.problem}" if names.problem else names.remark
-        return f"{shown(names.path)}: {shown(remark)}\n" if remark else ""
+        return text
 
-    print_each(found, run.each(partial(names_in, run.program), found, lambda one: Names(one.path, problem=ENDED)), reported)
+    print_each(found, run.each(partial(names_in, run.program), found, skipped), reported, skipped)
     asked = table.names()[:MOST_NAMES]
-    answers = run.in_order(partial(is_known, run.program), asked, stop=run.stop, lost=lambda name: None)
+    answers = run.in_order(partial(is_known, run.program), asked, stop=run.stop, failed=lambda _, problem: f"not asked: {problem}")
     known = dict(zip(asked, answers, strict=False))
     sys.stdout.write(table.text(known))
     unknown = list(known.values()).count(False)
@@ -38,4 +39,5 @@ def command(run: Run, options: Options) -> int:
     sys.stdout.write(f"{problems} skipped\n")
     if run.is_interrupted():
         sys.stdout.write("interrupted: not all files were looked at\n")
+    problems += sum(isinstance(one, str) for one in known.values())
     return Status.TROUBLE if problems else Status.FINDING if unknown else Status.SUCCESS

@@ -2,13 +2,18 @@
 
 from __future__ import annotations
 
+import signal
 import sys
+from functools import partial
 from typing import NamedTuple
 
+from tml.attempts import attempted
+
 from ..asking.program import CannotRun
+from ..clash.fitting import not_judged
 from ..command_line.run import Run
 from ..figure.draw import Paper
-from ..timeline.timeline import STANDARD_OUTPUT, Choices, draw, draw_placing, form_of, write_picture
+from ..timeline.timeline import STANDARD_OUTPUT, Choices, draw, draw_placing, form_of, undrawn, write_picture
 
 COLUMN = "84mm"
 """How broad a picture for a paper is, unless another width is asked for: a column of a page with two of them."""
@@ -30,11 +35,15 @@ class Options(NamedTuple):
 
 
 def command(run: Run, options: Options) -> int:
-    """Draws the timeline of a document, and answers the status."""
+    """Draws the timeline of a document, and answers the status. An interruption ends it at once: there is nothing else to report."""
+    signal.signal(signal.SIGINT, signal.default_int_handler)
+    if run.is_interrupted():
+        raise KeyboardInterrupt
     rows = tuple(name for name in (options.rows or "").split(",") if name)
     choices = Choices(options.touching, options.asserted, options.text_order, rows, options.context, paper_of(options))
-    drawn = (draw_placing if options.seconds else draw)(run.program, options.document, options.output, choices)
-    if drawn.picture is not None and not run.is_interrupted():
+    work = partial(draw_placing if options.seconds else draw, run.program, target=options.output, choices=choices)
+    drawn = attempted(work, options.document, lambda path, problem: undrawn(not_judged(path, problem)))
+    if drawn.picture is not None:
         write_picture(options.output, drawn.picture)
     (sys.stderr if options.output == STANDARD_OUTPUT else sys.stdout).write(drawn.text)
     return drawn.status

@@ -29,12 +29,14 @@ import unicodedata
 from collections import defaultdict
 from collections.abc import Iterable, Iterator, Sequence
 from dataclasses import dataclass, field
+from functools import partial
 from xml.sax.saxutils import escape, quoteattr
+
+from tml.attempts import attempted
 
 from ..command_line.output import ProgramParser, RawFormatter, complain, run
 from ..command_line.statuses import Status
-from ..files.finding import CannotRead, reason
-from ..files.replacing import written
+from ..files.replacing import make_folder, replace_file
 from .tables import BadTable, Word, at_least, rows
 
 EVENT_ATTRIBUTES = ("class",)
@@ -220,17 +222,29 @@ def convert(words: list[str]) -> int:
     parser.add_argument("out", metavar="OUT", help="the folder for the documents, which is made if it is not there")
     options = parser.parse_args(words)
     try:
-        texts = {name: source.text() for name, source in sorted(read_tables(options.tables).items())}
+        sources = sorted(read_tables(options.tables).items())
     except BadTable as problem:
         return complain(str(problem), Status.FINDING)
+    make_folder(options.out)
+    return max((attempted(partial(write, options.out), one, not_written) for one in sources), default=Status.SUCCESS)
+
+
+def write(folder: str, one: tuple[str, Source]) -> Status:
+    """Writes a document, by its name and what the tables have of it."""
+    name, source = one
     try:
-        os.makedirs(options.out, exist_ok=True)
-        for name, text in texts.items():
-            with written(os.path.join(options.out, name + ".xml")) as file:
-                file.write(text.encode("utf-8"))
-    except (OSError, ValueError) as error:
-        raise CannotRead(f"{options.out} cannot be written: {reason(error)}") from None
+        text = source.text()
+    except BadTable as problem:
+        complain(str(problem))
+        return Status.FINDING
+    replace_file(os.path.join(folder, f"{name}.xml"), text.encode("utf-8"))
     return Status.SUCCESS
+
+
+def not_written(one: tuple[str, Source], problem: str) -> Status:
+    """Says what went wrong with a document."""
+    complain(f"{one[0]}: not written: {problem}")
+    return Status.TROUBLE
 
 
 def main(words: Sequence[str] | None = None) -> int:

@@ -11,18 +11,18 @@ fault or its links contradict each other, and 130 that the run was interrupted.
 
 from __future__ import annotations
 
-import sys
 from collections.abc import Sequence
 from dataclasses import dataclass, field
 from functools import partial
 
 from ..asking.libraries import library_of
-from ..asking.looking import looked_at
 from ..asking.pool import Interruption, in_order, processors
 from ..asking.program import Program, find_program
+from ..asking.room import document_of
 from ..check.formats import located
 from ..command_line.output import ProgramParser, RawFormatter, run
-from ..command_line.statuses import ENDED, Status
+from ..command_line.run import print_each
+from ..command_line.statuses import Status
 from ..document.reduced import problem_of, read_reduced
 from ..document.words import Wording
 from ..files.finding import PATTERNS, Found, counted, find_files, shown
@@ -50,11 +50,16 @@ def ask_of_all(words: list[str]) -> int:
     program = Program(path, library_of(None, path, is_chosen=options.tml is not None))
     found = find_files(options.paths, options.glob or list(PATTERNS))
     links = follows = problems = 0
+
+    def reported(_: Found, report: Report) -> str:
+        nonlocal links, follows, problems
+        text = report.text()
+        links, follows, problems = links + report.links, follows + len(report.follows), problems + (report.problem is not None)
+        return text
+
     with Interruption() as stop:
-        work, jobs = partial(look, program), max(options.jobs, 1)
-        for report in in_order(work, found, jobs, stop, lambda one: Report(one.path, problem=ENDED), program.load):
-            sys.stdout.write(report.text())
-            links, follows, problems = links + report.links, follows + len(report.follows), problems + (report.problem is not None)
+        reports = in_order(partial(look, program), found, max(options.jobs, 1), stop, skipped, program.load)
+        print_each(found, reports, reported, skipped)
         files = f"{counted(len(found), 'file')}, {problems} skipped"
         print(f"{files}; links that follow from those that are kept: {follows} of {links}")
         if stop.happened.is_set():
@@ -74,14 +79,18 @@ def parser() -> ProgramParser:
 
 
 def look(program: Program, found: Found) -> Report:
-    """Asks about the links of one file."""
-    if found.problem is not None:
-        return Report(found.path, problem=found.problem)
-    return looked_at(found.path, partial(report_of, program, found.path), lambda problem: Report(found.path, problem=problem))
+    """What `tml reduce` leaves out of one file."""
+    with document_of(found) as document:
+        return report_of(program, found.path, document)
+
+
+def skipped(found: Found, problem: str) -> Report:
+    """The report on a file with which something went wrong."""
+    return Report(found.path, problem=problem)
 
 
 def report_of(program: Program, path: str, document: bytes) -> Report:
-    """What `tml reduce` leaves out of a document."""
+    """The same of a document in memory."""
     reply = program.ask(["reduce", "-"], document)
     problem = problem_of(reply, document, reply.text)
     if problem is not None:

@@ -6,6 +6,8 @@ import re
 from collections.abc import Iterator
 from typing import NamedTuple
 
+from tml.running import Expected
+
 from ..files.finding import LONGEST_LINE, CannotRead, lines_of
 
 MOST_DIGITS = 9
@@ -15,7 +17,7 @@ NOT_XML = re.compile("[\x00-\x08\x0b\x0c\x0e-\x1f\ufffe\uffff]")
 """The characters of UTF-8 that no document in XML has."""
 
 
-class BadTable(Exception):
+class BadTable(Expected):
     """A table is not what this program takes it for: the sentence has its file, line and column."""
 
 

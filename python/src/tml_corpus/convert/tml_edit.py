@@ -27,8 +27,10 @@ from collections.abc import Callable, Iterable, Sequence
 from functools import partial
 from itertools import count
 
+from tml.attempts import attempted
 from tml.explaining.faults import BAD_MARKUP, read_fault
 from tml.places import Places
+from tml.running import Expected
 from tml.statuses import TmlStatus
 from tml.tags.cutting import units_of_whole
 from tml.tags.edits import Edit, applied, applied_in_order, with_spaces_before, with_value
@@ -39,7 +41,7 @@ from ..clash.touching import Change, asks, touching_changes, with_changes
 from ..command_line.output import ProgramParser, RawFormatter, complain, run, standard_input
 from ..command_line.statuses import Status
 from ..document.words import Wording
-from ..files.finding import PATTERNS, CannotRead, Found, counted, find_files, read_document, shown
+from ..files.finding import PATTERNS, Found, counted, find_files, read_document, shown
 from ..files.standard_input import STANDARD_INPUT
 from .tables import BadTable, Word, rows
 
@@ -67,7 +69,7 @@ IDENTIFIER = re.compile(r"[A-Za-z0-9_.-]{1,64}")
 LETTERS = {"b": "BEFORE", "a": "AFTER", "i": "INCLUDES", "ii": "IS_INCLUDED", "s": "SIMULTANEOUS", "v": "VAGUE"}
 
 
-class CannotEdit(Exception):
+class CannotEdit(Expected):
     """The document is not one that this program can change."""
 
 
@@ -398,27 +400,27 @@ def edit(words: list[str]) -> int:
     if others or options.write or os.path.isdir(first):
         return edit_files(program, options)
 
-    def print_changed() -> None:
-        text = standard_input(DOCUMENT_LIMIT + 1) if first == STANDARD_INPUT else read_document(first)
+    def print_changed(one: Found) -> None:
+        text = standard_input(DOCUMENT_LIMIT + 1) if first == STANDARD_INPUT else read_document(one.place())
         sys.stdout.buffer.write(edited(program, options, first, text))
 
-    return tried(first, print_changed)
+    return attempted(partial(tried, print_changed), Found(first), not_changed)
 
 
-def tried(path: str, work: Callable[[], None]) -> Status:
-    """Does something with one document, and says why where it cannot be done."""
+def tried(work: Callable[[Found], None], one: Found) -> Status:
+    """Does something with one document, and says what keeps it from being changed."""
     try:
-        work()
+        work(one)
         return Status.SUCCESS
-    except CannotEdit as problem:
-        complain(f"{path}: not changed: {problem}")
+    except (CannotEdit, BadTable) as problem:
+        complain(f"{one.path}: not changed: {problem}" if isinstance(problem, CannotEdit) else str(problem))
         return Status.FINDING
-    except BadTable as problem:
-        complain(str(problem))
-        return Status.FINDING
-    except (CannotRead, CannotRun) as problem:
-        complain(f"{path}: {problem}")
-        return Status.TROUBLE
+
+
+def not_changed(one: Found, problem: str) -> Status:
+    """Says what went wrong with a document."""
+    complain(f"{one.path}: {problem}")
+    return Status.TROUBLE
 
 
 def edit_files(program: Program, options: argparse.Namespace) -> int:
@@ -429,8 +431,6 @@ def edit_files(program: Program, options: argparse.Namespace) -> int:
     changed: list[Found] = []
 
     def change(one: Found) -> None:
-        if one.problem is not None:
-            raise CannotRead(one.problem)
         before = read_document(one.place())
         after = edited(program, options, one.path, before)
         if after == before:
@@ -441,7 +441,7 @@ def edit_files(program: Program, options: argparse.Namespace) -> int:
         changed.append(one)
         sys.stdout.write(f"{shown(one.path)}: changed\n" if options.write else difference(one.path, fixed, "changed"))
 
-    statuses = [tried(one.path, partial(change, one)) for one in found]
+    statuses = [attempted(partial(tried, change), one, not_changed) for one in found]
     done = "changed" if options.write else "can be changed (--write does it)"
     left = len(statuses) - statuses.count(Status.SUCCESS)
     sys.stdout.write(f"{counted(len(found), 'file')}: {len(changed)} {done}, {left} that cannot be\n")

@@ -6,13 +6,15 @@ import importlib
 import os
 import shutil
 import subprocess
-import tempfile
 from pathlib import Path
 from typing import Any
 
 from tml.markup import element, html_file, lined, raw
+from tml.running import RUNNING, end, ended
 
 from ..asking.program import CannotRun
+from ..files.replacing import replace_file
+from ..files.writing import folder_for_a_while, unbroken
 from .shapes import Figure
 from .svg_form import POINTS_OF_MILLIMETRE, drawing, svg
 
@@ -41,9 +43,9 @@ def by_browser(figure: Figure) -> bytes:
     style = f"@page{{size:{broad} {high};margin:0}}html,body{{margin:0}}svg{{display:block}}"
     head = element("head", element("meta", charset="utf-8"), element("title", figure.title), raw("style", style))
     page = html_file(element("html", lined(head, element("body", drawing(figure))), lang="en"))
-    with tempfile.TemporaryDirectory(prefix="tml-", ignore_cleanup_errors=True) as folder:
+    with folder_for_a_while() as folder:
         source, target = Path(folder, "figure.html"), Path(folder, "figure.pdf")
-        source.write_text(page, encoding="utf-8")
+        replace_file(str(source), page.encode("utf-8"))
         run(browser, folder, source, target)
         if not target.is_file():
             raise CannotRun(f"{browser} printed no PDF: write .svg, or .tex")
@@ -51,11 +53,26 @@ def by_browser(figure: Figure) -> bytes:
 
 
 def run(browser: str, folder: str, source: Path, target: Path) -> None:
-    """Lets a browser print a page. It refuses to work for root unless its sandbox is off; the page has no script and loads nothing."""
+    """Lets a browser print a page. It refuses to work for root unless its sandbox is off; the page has no script and loads nothing.
+
+    All that it writes is in the folder, and all its processes end with it.
+    """
     sandbox = ["--no-sandbox"] if os.geteuid() == 0 else []
     words = ["--headless", "--disable-gpu", "--disable-dev-shm-usage", "--no-first-run", "--no-pdf-header-footer", *sandbox]
-    words += [f"--user-data-dir={folder}/profile", f"--print-to-pdf={target}", source.as_uri()]
+    words += [f"--user-data-dir={folder}/profile", f"--print-to-pdf={target}"]
+    environment = os.environ | dict.fromkeys(("TMPDIR", "XDG_RUNTIME_DIR", "BREAKPAD_DUMP_LOCATION"), folder)
+    null = subprocess.DEVNULL
+    child = None
     try:
-        subprocess.run([browser, *words], stdin=subprocess.DEVNULL, capture_output=True, timeout=PATIENCE, check=False)
+        with unbroken():
+            words = [browser, *words, source.as_uri()]
+            child = subprocess.Popen(words, stdin=null, stdout=null, stderr=null, env=environment, start_new_session=True)
+            RUNNING.add(child)
+        ended(child, PATIENCE)
     except (OSError, subprocess.TimeoutExpired) as problem:
         raise CannotRun(f"{browser} printed no PDF: {problem}") from None
+    finally:
+        if child is not None:
+            with unbroken():
+                end(child)
+                RUNNING.discard(child)

@@ -8,7 +8,7 @@ from contextlib import contextmanager
 from itertools import chain
 from typing import IO, NamedTuple
 
-from tml.running import PART
+from tml.running import PART, Expected
 from tml.saying import counted as counted  # noqa: F401 (which many take from here)
 from tml.saying import shown as shown  # noqa: F401
 from tml.statuses import DOCUMENT_LIMIT
@@ -19,7 +19,7 @@ LONGEST_LINE = 65536
 """How many bytes a line of a table or of a baseline has at most. One of a baseline has a path and a tag of 80 characters, in ASCII."""
 
 
-class CannotRead(Exception):
+class CannotRead(Expected):
     """A file or folder cannot be read, or is none."""
 
 
@@ -36,7 +36,9 @@ class Found(NamedTuple):
     """The folder in which a search found it, where it was not named itself."""
 
     def place(self) -> str:
-        """Where the file lies."""
+        """Where the file lies. A path that stands for none cannot be read, for its reason."""
+        if self.problem is not None:
+            raise CannotRead(self.problem)
         return self.lies_at or (os.path.join(self.base, self.path) if self.base else self.path)
 
     def is_found_link(self) -> bool:
@@ -82,13 +84,16 @@ def search_folder(folder: str, patterns: Sequence[str]) -> list[Found]:
 
 
 def matcher(patterns: Sequence[str]) -> Callable[[str], object]:
-    """What tells whether a name matches one of some patterns. Most patterns say how a name ends, which is seen faster."""
-    ends = tuple(pattern[1:] for pattern in patterns)
+    """What tells whether a name matches one of some patterns, in any case of letters.
+
+    Most patterns say how a name ends, which is seen faster.
+    """
+    ends = tuple(pattern[1:].lower() for pattern in patterns)
     if all(pattern.startswith("*") and not set("*?[") & set(end) for pattern, end in zip(patterns, ends, strict=True)):
-        return lambda name: name.endswith(ends)
+        return lambda name: name.lower().endswith(ends)
     import fnmatch
 
-    return re.compile("|".join(map(fnmatch.translate, patterns))).match
+    return re.compile("|".join(map(fnmatch.translate, patterns)), re.IGNORECASE).match
 
 
 def entries_of(place: str, matches: Callable[[str], object]) -> tuple[list[str], list[str]]:

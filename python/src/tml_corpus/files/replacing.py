@@ -1,4 +1,7 @@
-"""Files that take the place of others: written whole under another name first, so that none is left half written, and nothing beside it."""
+"""All files that are written: whole under another name first, so that none is left half written, and nothing beside it.
+
+Where a file is there already the new one has its rights, or it stays as it is.
+"""
 
 from __future__ import annotations
 
@@ -7,7 +10,7 @@ import os
 import stat
 from collections.abc import Iterator
 from contextlib import contextmanager, suppress
-from typing import IO, NamedTuple
+from typing import NamedTuple
 
 from tml.running import CannotRun
 
@@ -25,25 +28,6 @@ NO_LINK = os.O_NOFOLLOW | os.O_CLOEXEC
 def other_name() -> str:
     """A name for a file that is not yet whole. No search looks for it."""
     return f".tml-{os.urandom(8).hex()}"
-
-
-@contextmanager
-def written(target: str) -> Iterator[IO[bytes]]:
-    """A new file that takes the place of the target once it is written whole. Where that fails nothing is left of it.
-
-    Its mode is that of the user's umask. A symbolic link that lies there is not followed, and gives way.
-    """
-    temporary = os.path.join(os.path.dirname(os.path.abspath(target)), other_name())
-    with unbroken():
-        file = open(temporary, "xb")
-        try:
-            with file:
-                yield file
-            os.replace(temporary, target)
-        except BaseException:
-            with suppress(OSError):
-                os.unlink(temporary)
-            raise
 
 
 class Rights(NamedTuple):
@@ -90,11 +74,11 @@ def access_list_of(handle: int) -> bytes | None:
 
 
 def replace_file(path: str, content: bytes, before: bytes | None = None, top: str = "") -> None:
-    """Writes a file, with the rights of the one that it replaces, if there is one.
+    """Writes a file, with the rights of the one that it replaces, if there is one, or else those of the user's umask.
 
-    Where a content `before` is given the file has to be there with it until the last moment. Below `top`, a folder that was searched,
-    no link is followed to the file; without it the path was named by the user, and its links are followed. Raises `CannotRun`, and leaves
-    the file as it is, where that or the rights cannot be had.
+    Where a content `before` is given the file has to be there with it until the last moment. Below `top`, a folder that was searched or
+    in which names are chosen here, no link is followed to the file; without it the path was named by the user, and its links are followed.
+    Raises `CannotRun`, and leaves the file as it is, where that or the rights cannot be had.
     """
     target = path if top else os.path.realpath(path)
     try:
@@ -102,6 +86,14 @@ def replace_file(path: str, content: bytes, before: bytes | None = None, top: st
             put(folder, os.path.basename(target), content, before)
     except (OSError, ValueError) as error:
         raise CannotRun(f"{path} cannot be written: {reason(error)}") from None
+
+
+def make_folder(path: str) -> None:
+    """Makes a folder, with those above it, where it is not there."""
+    try:
+        os.makedirs(path, exist_ok=True)
+    except (OSError, ValueError) as error:
+        raise CannotRun(f"the folder {path} cannot be made: {reason(error)}") from None
 
 
 @contextmanager
@@ -128,8 +120,9 @@ def put(folder: int, name: str, content: bytes, before: bytes | None) -> None:
             if rights is not None:
                 rights.give(handle)
             file.write(content)
-            file.flush()
-            os.fsync(handle)
+            if rights is not None:
+                file.flush()
+                os.fsync(handle)
         if before is not None and not is_still(folder, name, rights, before):
             raise CannotRun("the file was changed meanwhile")
         os.replace(temporary, name, src_dir_fd=folder, dst_dir_fd=folder)
@@ -142,7 +135,10 @@ def put(folder: int, name: str, content: bytes, before: bytes | None) -> None:
 @contextmanager
 def opened_at(folder: int, name: str) -> Iterator[int]:
     """A regular file of an open folder, open."""
-    handle = os.open(name, os.O_RDONLY | os.O_NONBLOCK | NO_LINK, dir_fd=folder)
+    try:
+        handle = os.open(name, os.O_RDONLY | os.O_NONBLOCK | NO_LINK, dir_fd=folder)
+    except OSError as error:
+        raise OSError(error.errno, "is a symbolic link") if error.errno == errno.ELOOP else error from None
     try:
         if not stat.S_ISREG(os.fstat(handle).st_mode):
             raise OSError(errno.EINVAL, "is not a regular file")

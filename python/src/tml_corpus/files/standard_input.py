@@ -5,7 +5,8 @@ from __future__ import annotations
 import sys
 from collections.abc import Sequence
 
-from ..asking.program import DOCUMENT_LIMIT, CannotRun
+from tml.statuses import DOCUMENT_LIMIT
+
 from .finding import Found, find_files, reason
 
 STANDARD_INPUT = "-"
@@ -17,26 +18,21 @@ class StandardInput:
     def __init__(self, name: str | None) -> None:
         import tempfile
 
-        self.name = name or STANDARD_INPUT
-        if sys.stdin is None:
-            raise CannotRun("there is no standard input")
+        name = name or STANDARD_INPUT
         try:
             self.file = tempfile.TemporaryFile()
             # One byte more than tml takes, so that it still says that the document is too long.
             self.file.write(sys.stdin.buffer.read(DOCUMENT_LIMIT + 1))
             self.file.flush()
+            self.found = Found(name, lies_at=f"/dev/fd/{self.file.fileno()}")
         except (OSError, ValueError) as error:
-            raise CannotRun(f"standard input cannot be read: {reason(error)}") from None
-
-    def found(self) -> Found:
-        """The file, for the processes of this program."""
-        return Found(self.name, lies_at=f"/dev/fd/{self.file.fileno()}")
+            self.found = Found(name, f"standard input cannot be read: {reason(error)}")
 
 
 def find_with(given: StandardInput, paths: Sequence[str], patterns: Sequence[str]) -> list[Found]:
     """The files that the paths stand for, where `-` is standard input; no file is named twice."""
     found: dict[str, Found] = {}
     for path in paths:
-        for one in [given.found()] if path == STANDARD_INPUT else find_files([path], patterns):
+        for one in [given.found] if path == STANDARD_INPUT else find_files([path], patterns):
             found.setdefault(one.path, one)
     return list(found.values())

@@ -4,15 +4,16 @@ from __future__ import annotations
 
 import sys
 from dataclasses import dataclass
+from typing import TextIO
 
 from tml.matrices import Matrix
 
 from ..asking.pool import Interruption
-from ..asking.program import CannotRun, Program
-from ..clash.fitting import Unfit, fitting, not_judged
+from ..asking.program import Program
+from ..clash.fitting import Unfit, fitting, status_of
 from ..command_line.statuses import Status
 from ..document.words import Wording
-from ..files.finding import CannotRead, read_document
+from ..files.finding import read_document
 from .formats import FORMS
 from .reading import matrix_of
 
@@ -28,22 +29,25 @@ class Worded:
 
 def worded_matrix(program: Program, path: str, undone: str, touching: bool) -> Worded | Unfit:
     """The matrix of a file, or why there is none."""
-    try:
-        found = fitting(program, path, read_document(path), undone, touching)
-        if isinstance(found, Unfit):
-            return found
-        wording = Wording(program, found.document)
-        return Worded(found.text, wording, matrix_of(program, found.document, wording.intervals))
-    except (CannotRead, CannotRun) as problem:
-        return not_judged(path, problem)
+    found = fitting(program, path, read_document(path), undone, touching)
+    if isinstance(found, Unfit):
+        return found
+    wording = Wording(program, found.document)
+    return Worded(found.text, wording, matrix_of(program, found.document, wording.intervals))
 
 
 def show_matrix(program: Program, path: str, form: str, touching: bool, stop: Interruption) -> int:
     """Prints it, and answers the status. What is not part of a table goes to standard error."""
+    apart = sys.stdout if form == "text" else sys.stderr
+    return status_of(lambda path: print_matrix(program, path, form, touching, apart, stop), path, apart)
+
+
+def print_matrix(program: Program, path: str, form: str, touching: bool, apart: TextIO, stop: Interruption) -> Unfit | int:
+    """The same, where some timeline fits the document."""
     found = worded_matrix(program, path, "shown", touching)
-    (sys.stdout if form == "text" else sys.stderr).write(found.text)
     if isinstance(found, Unfit):
-        return found.status
+        return found
+    apart.write(found.text)
     sys.stdout.flush()
     for part in FORMS[form](path, found.wording, found.matrix):
         if stop.happened.is_set():

@@ -13,11 +13,11 @@ from tml.statuses import LINK_LIMIT
 
 from ..asking.pool import Interruption
 from ..asking.program import CannotRun, Program
-from ..clash.fitting import Unfit, not_judged
+from ..clash.fitting import Unfit, status_of
 from ..clash.leftout import Copies, enclosed
 from ..command_line.progress import Progress
-from ..command_line.statuses import ENDED, Status
-from ..files.finding import CannotRead, Found, counted, shown
+from ..command_line.statuses import Status
+from ..files.finding import Found, counted, shown
 from .formats import labels_of
 from .reading import tally_of
 from .settling import Settled, Settling
@@ -67,9 +67,9 @@ def decided_in(matrix: Matrix) -> int:
     return sum(is_decided[number] for number in matrix.cells)
 
 
-def lost(_: object) -> NoReturn:
-    """What comes of an item with which a process was ended."""
-    raise CannotRun(ENDED)
+def failed(_: object, problem: str) -> NoReturn:
+    """What comes of an item with which something went wrong: the document is not looked at."""
+    raise CannotRun(problem)
 
 
 def with_progress(
@@ -78,7 +78,7 @@ def with_progress(
     """The results of some work in order, on all processors, with a sign of progress."""
     progress = Progress(len(items), unit)
     try:
-        for result in in_order(work, items, stop=stop, lost=lost):
+        for result in in_order(work, items, stop=stop, failed=failed):
             yield result
             progress.step()
     finally:
@@ -93,29 +93,26 @@ def show_open_of_all(
     for one in found:
         if stop.happened.is_set():
             break
-        if one.problem is not None:
-            unfit = not_judged(one.path, CannotRead(one.problem))
-            sys.stdout.write(unfit.text)
-            statuses.append(unfit.status)
-        else:
-            statuses.append(show_open(program, one.path, bounds, touching, in_order, stop, f"{shown(one.path)}: "))
+        statuses.append(show_open(program, one, bounds, touching, in_order, stop, f"{shown(one.path)}: "))
     return max(statuses, default=Status.SUCCESS)
 
 
 def show_open(
-    program: Program, path: str, bounds: Bounds, touching: bool, in_order: InOrder[Any], stop: Interruption, before: str = ""
+    program: Program, file: Found, bounds: Bounds, touching: bool, in_order: InOrder[Any], stop: Interruption, before: str = ""
 ) -> int:
     """Prints the open pairs of a file, with some words before the line of each, and answers the status."""
-    found = worded_matrix(program, path, "looked at", touching)
-    sys.stdout.write(found.text)
+    return status_of(lambda path: print_open(program, file, bounds, touching, in_order, stop, before), file.path, sys.stdout)
+
+
+def print_open(
+    program: Program, file: Found, bounds: Bounds, touching: bool, in_order: InOrder[Any], stop: Interruption, before: str
+) -> Unfit | int:
+    """The same, where some timeline fits the document."""
+    found = worded_matrix(program, file.place(), "looked at", touching)
     if isinstance(found, Unfit):
-        return found.status
-    try:
-        *lines, last = lines_of(program, path, found, bounds, in_order, stop)
-    except CannotRun as problem:
-        unfit = not_judged(path, problem)
-        sys.stdout.write(unfit.text)
-        return unfit.status
+        return found
+    sys.stdout.write(found.text)
+    *lines, last = lines_of(program, file.path, found, bounds, in_order, stop)
     if stop.happened.is_set():
         sys.stdout.write("interrupted: not all pairs were looked at\n")
         return Status.INTERRUPTED

@@ -8,16 +8,17 @@ from __future__ import annotations
 from collections import Counter
 from dataclasses import dataclass, field, replace
 
-from ..asking.program import CannotRun, Program
-from ..asking.room import room_for
+from ..asking.program import Program
+from ..asking.room import document_of
 from ..check.judgement import Judgement
 from ..check.judging import placed_warnings
 from ..clash.clashes import is_timeline
+from ..clash.first import not_judged
 from ..clash.report import TOUCHING, ClashReport, Wanted
 from ..clash.search import report_of
 from ..clash.touching import touching_copy
 from ..document.words import Wording
-from ..files.finding import CannotRead, Found, read_document
+from ..files.finding import Found
 from ..timeline.rows import Timeline
 from ..timeline.timeline import verified
 
@@ -61,22 +62,14 @@ class Entry:
 
 
 def examine(program: Program, found: Found, wanted: Wanted) -> Examined:
-    """Asks about one file. Whatever goes wrong with it is reported of it and ends nothing else."""
-    if found.problem is not None:
-        return not_judged(found.path, found.problem)
-    try:
-        document = read_document(found.place())
-        with room_for(document):
-            return examine_document(program, found, document, wanted)
-    except (CannotRead, CannotRun) as problem:
-        return not_judged(found.path, str(problem))
-    except MemoryError:
-        return not_judged(found.path, "no memory to take the document apart")
+    """Asks about one file."""
+    with document_of(found) as document:
+        return examine_document(program, found, document, wanted)
 
 
-def not_judged(path: str, problem: str) -> Examined:
-    """What there is of a file that was not judged."""
-    return Examined(ClashReport(Judgement(path, problem=problem)))
+def not_examined(found: Found, problem: str) -> Examined:
+    """What there is of a file with which something went wrong."""
+    return Examined(not_judged(found, problem))
 
 
 def examine_document(program: Program, found: Found, document: bytes, wanted: Wanted) -> Examined:

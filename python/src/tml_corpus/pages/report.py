@@ -11,14 +11,14 @@ from dataclasses import dataclass, field
 from functools import partial
 from typing import TYPE_CHECKING
 
+from tml.attempts import attempted
+
 from ..asking.program import CannotRun, Program
-from ..check.judgement import Judgement
 from ..clash.clashes import own_name
 from ..clash.report import ClashReport, Wanted
-from ..command_line.statuses import ENDED
 from ..files.finding import Found, reason, shown
-from ..files.replacing import written
-from .documents import Entry, Examined, entry_of, examine
+from ..files.replacing import make_folder, replace_file
+from .documents import Entry, entry_of, examine, not_examined
 from .index import index_of
 from .page import page_of
 from .script import DOCUMENT_SCRIPT, INDEX_SCRIPT
@@ -51,61 +51,47 @@ class Folder:
 
     def prepare(self) -> None:
         """Makes the folder, and writes what the pages share. One that has other files is refused, so that none of these is lost."""
+        make_folder(self.path)
         try:
-            os.makedirs(self.path, exist_ok=True)
             names = os.listdir(self.path)
-            if names and not set(SHARED) <= set(names):
-                raise CannotRun(f"{self.path} has files that are not part of a report: name a new folder, or that of an earlier report")
-            for name, text in SHARED.items():
-                write_page(os.path.join(self.path, name), text)
-            os.makedirs(os.path.join(self.path, DOCUMENTS), exist_ok=True)
-        except (OSError, ValueError) as error:
-            raise CannotRun(f"the folder {self.path} cannot be made: {reason(error)}") from None
+        except OSError as error:
+            raise CannotRun(f"the folder {self.path} cannot be read: {reason(error)}") from None
+        if names and not set(SHARED) <= set(names):
+            raise CannotRun(f"{self.path} has files that are not part of a report: name a new folder, or that of an earlier report")
+        for name, text in SHARED.items():
+            write_page(self.path, name, text)
+        make_folder(os.path.join(self.path, DOCUMENTS))
 
     def write_index(self, expected: int) -> None:
         """Writes the index of the documents that were looked at."""
-        write_page(os.path.join(self.path, INDEX), index_of(self.entries, expected))
+        write_page(self.path, INDEX, index_of(self.entries, expected))
 
     def last_line(self) -> str:
         """Where the report is."""
         return f"report in {shown(os.path.join(self.path, INDEX))}\n"
 
 
-def write_page(target: str, text: str) -> None:
-    """Writes one file."""
-    try:
-        with written(target) as file:
-            file.write(text.encode("utf-8", "replace"))
-    except (OSError, ValueError) as error:
-        raise CannotRun(f"{target} cannot be written: {reason(error)}") from None
+def write_page(folder: str, name: str, text: str) -> None:
+    """Writes one file of a folder."""
+    replace_file(os.path.join(folder, name), text.encode("utf-8", "replace"), top=folder)
 
 
 def reported_files(run: Run, folder: Folder, found: Sequence[Found], wanted: Wanted) -> Iterator[Reported]:
     """Writes the pages of some files, and answers in their order what became of each; the lines of the index are kept with the folder."""
-    for one in run.each(partial(report_file, run.program, folder.path, wanted=wanted), found, ended):
+    for one in run.each(partial(report_file, run.program, folder.path, wanted=wanted), found, without_page):
         folder.entries.append(one.entry)
         yield one
 
 
 def report_file(program: Program, folder: str, found: Found, wanted: Wanted) -> Reported:
     """Looks at one file and writes its page."""
-    examined = examine(program, found, wanted)
+    examined = attempted(partial(examine, program, wanted=wanted), found, not_examined)
     name = own_name(found.path, "html")
-    try:
-        text = page_of(examined)
-    except (CannotRun, MemoryError) as problem:
-        examined = lost(found, str(problem) or "no memory to make its page")
-        text = page_of(examined)
-    write_page(os.path.join(folder, DOCUMENTS, name), text)
+    write_page(folder, os.path.join(DOCUMENTS, name), page_of(examined))
     return Reported(examined.report, entry_of(examined, name))
 
 
-def lost(found: Found, problem: str) -> Examined:
-    """What there is of a file of which `tml` could not be asked to the end."""
-    return Examined(ClashReport(Judgement(found.path, problem=problem)))
-
-
-def ended(found: Found) -> Reported:
-    """What there is of a file with which a process ended."""
-    examined = lost(found, ENDED)
+def without_page(found: Found, problem: str) -> Reported:
+    """What there is of a file with which something went wrong, so that it has no page."""
+    examined = not_examined(found, problem)
     return Reported(examined.report, entry_of(examined, None))

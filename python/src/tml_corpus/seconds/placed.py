@@ -10,12 +10,12 @@ from tml.lines import Step
 from ..asking.program import FAULT, CannotRun, Program
 from ..check.placed import PlacedNote
 from ..clash.constraints import Constraints
-from ..clash.fitting import Unfit, fault_of, not_judged
+from ..clash.fitting import Unfit, fault_of
 from ..clash.report import PlacedLink
 from ..clash.search import placed_link
 from ..clash.touching import asks, touching_changes, with_changes
 from ..document.words import Wording
-from ..files.finding import CannotRead, counted, read_document
+from ..files.finding import counted
 from .civil import civil, length
 from .placing import Cycle, Placing, place
 
@@ -72,16 +72,8 @@ class Unplaced:
         return f"no placing in seconds: these {what} cannot all be met, {self.short:,} {'second' if self.short == 1 else 'seconds'} short"
 
 
-def placed_document(program: Program, path: str, touching: bool) -> Placed | Unplaced | Unfit:
-    """The placing of a file, or why there is none. Links between dates that touch may be read as the relation that holds."""
-    try:
-        return document_placed(program, path, read_document(path), touching)
-    except (CannotRead, CannotRun) as problem:
-        return not_judged(path, problem)
-
-
 def document_placed(program: Program, path: str, document: bytes, touching: bool) -> Placed | Unplaced | Unfit:
-    """The same of a document in memory."""
+    """The placing of a document, or why there is none. Links between dates that touch may be read as the relation that holds."""
     found = placed(program, path, document)
     return read_touching(program, path, document) or found if touching and isinstance(found, Unplaced) else found
 

@@ -3,23 +3,28 @@
 from __future__ import annotations
 
 import sys
+from typing import TextIO
 
 from ..asking.program import Program
-from ..clash.fitting import Unfit
+from ..clash.fitting import Unfit, status_of
 from ..command_line.statuses import Status
-from ..files.finding import counted, shown
+from ..files.finding import counted, read_document, shown
 from .civil import in_calendar
 from .formats import FORMS, change_lines, unplaced_json, unplaced_lines
-from .placed import Placed, Unplaced, placed_document
+from .placed import Placed, Unplaced, document_placed
 
 
 def show_seconds(program: Program, path: str, form: str, touching: bool) -> int:
     """Prints it, and answers the status. Where the output is for programs, what is not part of it goes to standard error."""
-    found = placed_document(program, path, touching)
     apart = sys.stdout if form == "text" else sys.stderr
+    return status_of(lambda path: print_seconds(program, path, form, touching, apart), path, apart)
+
+
+def print_seconds(program: Program, path: str, form: str, touching: bool, apart: TextIO) -> Unfit | int:
+    """The same, where there is a placing or something that cannot be met."""
+    found = document_placed(program, path, read_document(path), touching)
     if isinstance(found, Unfit):
-        apart.write(found.text)
-        return found.status
+        return found
     apart.write(change_lines(path, found))
     if isinstance(found, Unplaced):
         if form == "json":

@@ -9,12 +9,14 @@ from __future__ import annotations
 
 import os
 import sys
-import traceback
 from collections.abc import Callable
 from dataclasses import dataclass, field
 from functools import partial
 from threading import Event, Thread
 from typing import IO
+
+from tml.attempts import cause
+from tml.running import Expected
 
 from ..asking.program import CannotRun, find_program
 from ..command_line.output import INPUT
@@ -25,7 +27,6 @@ from ..lint.kinds import chosen
 from .actions import ACTION_KINDS
 from .answers import ANSWERS, Client
 from .document import Asked, AskedUnwrapping, OpenDocument, Overtaken, path_of
-from .ending import end_by_signals
 from .findings import ERROR, findings, has_further, problem_finding, remark_finding
 from .inbox import Inbox, Message, Unreadable
 from .places import UTF_8, UTF_16
@@ -92,7 +93,7 @@ class Server:
             self.answer_error(message.number, BAD_PARAMS, str(problem))
         except Overtaken:
             self.answer_error(message.number, *self.why_overtaken(message))
-        except (CannotRun, CannotRead, MemoryError) as problem:
+        except (Expected, MemoryError) as problem:
             is_late = self.inbox.ending.late.is_set()
             self.answer_error(message.number, *(self.why_overtaken(message) if is_late else (FAILED, str(problem) or "out of memory")))
         finally:
@@ -140,11 +141,10 @@ class Server:
         """Does some work, in which a slip of this program ends nothing else."""
         try:
             return work()
-        except (Overtaken, BadParams, Refused, CannotRun, CannotRead, MemoryError):
+        except (Overtaken, BadParams, Refused, Expected, MemoryError):
             raise
         except Exception as error:
-            place = traceback.extract_tb(error.__traceback__)[-1]
-            raise Refused(INTERNAL, f"{type(error).__name__}: {error} ({os.path.basename(place.filename)}:{place.lineno})") from error
+            raise Refused(INTERNAL, cause(error)) from error
 
     def is_wanted(self, message: Message) -> bool:
         """Whether the answer to a request is still wanted."""
@@ -230,7 +230,7 @@ class Server:
             if self.inbox.is_overtaken(document.uri, opened.state):
                 opened.left.clear()
             return
-        except (Refused, CannotRun, CannotRead, MemoryError) as problem:
+        except (Refused, Expected, MemoryError) as problem:
             found = [problem_finding(str(problem) or "out of memory")]
             opened.left.clear()
         del opened.left[:1]
@@ -266,5 +266,4 @@ NOTICES: dict[str, Callable[[Server, Message], None]] = {
 
 def serve(tml: str | None, config: str | None, stop: Event) -> int:
     """Serves the client at standard input and output, and answers the status."""
-    end_by_signals()
     return Server(tml, config, sys.stdout.buffer).run(partial(os.read, INPUT), stop)

@@ -18,15 +18,15 @@ from tml.replies import EVIDENCE
 from ..asking.program import ACCEPTED, CannotRun, Program, Reply
 from ..asking.room import room_for
 from ..clash.clashes import verify_ranks, verify_timeline
-from ..clash.fitting import Unfit, fitting, not_judged
+from ..clash.fitting import Unfit, fitting
 from ..command_line.statuses import Status
 from ..document.around import Around, Text, text_around
 from ..document.asserted import AssertedCopy, asserted_copy, unasserted
 from ..document.words import Wording
 from ..figure.draw import FORMS as BARE_FORMS
 from ..figure.draw import Paper, clash_picture, timeline_picture
-from ..files.finding import CannotRead, counted, read_document, reason, shown
-from ..files.replacing import written
+from ..files.finding import CannotRead, counted, read_document, shown
+from ..files.replacing import replace_file
 from ..matrix.reading import matrix_of
 from ..seconds.formats import change_lines, unplaced_lines
 from ..seconds.placed import Placed, Unplaced, document_placed
@@ -78,12 +78,9 @@ def form_of(target: str) -> str:
 
 def draw(program: Program, path: str, target: str, choices: Choices) -> Drawn:
     """The picture of the timeline of one file, or why there is none."""
-    try:
-        document = readable(path, target)
-        with room_for(document):
-            return draw_document(program, path, document, target, choices)
-    except (CannotRead, CannotRun) as problem:
-        return undrawn(not_judged(path, problem))
+    document = readable(path, target)
+    with room_for(document):
+        return draw_document(program, path, document, target, choices)
 
 
 def readable(path: str, target: str) -> bytes:
@@ -101,17 +98,14 @@ def undrawn(unfit: Unfit) -> Drawn:
 
 def draw_placing(program: Program, path: str, target: str, choices: Choices) -> Drawn:
     """The picture of a placing of one file in whole seconds, or why there is none."""
-    try:
-        document, copy = chosen(program, readable(path, target), choices)
-        found = document_placed(program, path, document, choices.touching)
-        if isinstance(found, Unfit):
-            return undrawn(found)
-        if isinstance(found, Unplaced):
-            return Drawn(change_lines(path, found) + unplaced_lines(path, found), Status.FINDING)
-        picture = picture_of_placing(program, path, target, found, choices)
-        return Drawn(change_lines(path, found) + drawn_line(path, target, f"{found.counts()}, in seconds", copy), Status.SUCCESS, picture)
-    except (CannotRead, CannotRun) as problem:
-        return undrawn(not_judged(path, problem))
+    document, copy = chosen(program, readable(path, target), choices)
+    found = document_placed(program, path, document, choices.touching)
+    if isinstance(found, Unfit):
+        return undrawn(found)
+    if isinstance(found, Unplaced):
+        return Drawn(change_lines(path, found) + unplaced_lines(path, found), Status.FINDING)
+    picture = picture_of_placing(program, path, target, found, choices)
+    return Drawn(change_lines(path, found) + drawn_line(path, target, f"{found.counts()}, in seconds", copy), Status.SUCCESS, picture)
 
 
 def picture_of_placing(program: Program, path: str, target: str, found: Placed, choices: Choices) -> str:
@@ -290,8 +284,4 @@ def write_picture(target: str, picture: str | bytes) -> None:
         sys.stdout.flush()
         sys.stdout.buffer.write(content)
         return
-    try:
-        with written(target) as file:
-            file.write(content)
-    except (OSError, ValueError) as error:
-        raise CannotRun(f"{target} cannot be written: {reason(error)}") from None
+    replace_file(target, content)
