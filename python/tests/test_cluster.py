@@ -112,8 +112,8 @@ class OnACluster(ClusterTest):
         [victim] = self.daemons.workers(1, "--no-nanny")
         # After twenty questions of this worker the next one waits for its end.
         program = self.script(
-            f'if [ $PPID = {victim.pid} ]; then\n  cd "{self.folder}"\n  echo >> asked\n'
-            '  while [ "$(wc -l < asked)" -gt 20 ] && kill -0 $PPID; do touch waits; sleep 0.05; done\nfi'
+            f'cd "{self.folder}"\nif [ $PPID = {victim.pid} ] && echo >> asked && [ "$(wc -l < asked)" -gt 20 ]; then\n'
+            "  touch waits\n  while kill -0 $PPID; do sleep 0.05; done\nfi"
         )
         child = self.start("check", "--cluster", self.address, "d", tml=program, python=WITH_PACKAGES)
         until(lambda: os.path.exists(self.path("waits")))
@@ -149,10 +149,12 @@ class OnACluster(ClusterTest):
         self.assertEqual(named, [f"./{number:03}.xml" for number in range(len(named))])
         self.assertEqual(lines[-1], f"interrupted: {len(named)} of 300 files were looked at")
         self.assertTrue(0 < len(named) < 300, len(named))
-        # The tasks are cancelled: a worker ends what it had begun, and no more is asked. All files together would be 600 questions, and
-        # later tasks are done after them.
+        # The tasks are cancelled: a worker ends what it had begun, and no more is asked. All files together would be 600 questions. Both
+        # workers have ended that once both work on later tasks, which this program waits for.
         self.write("go", "")
-        self.assertEqual(self.bytes_of("check", "--cluster", self.address, "000.xml")[0], 1)
+        both = 'cd "${0%/*}"\necho $PPID >> both\nuntil [ "$(sort -u both | wc -l)" -gt 1 ]; do sleep 0.05; done'
+        later = [f"{number:03}.xml" for number in range(60)]
+        self.assertEqual(self.bytes_of("check", "--cluster", self.address, *later, tml=self.script(both))[0], 1)
         self.assertLess(len(self.read_bytes("asked")), 500)
 
 
