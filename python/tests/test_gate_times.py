@@ -13,7 +13,8 @@ from pathlib import Path
 from building.gate_times import Check, check_of, is_below, processes, table
 from processes import until
 
-AS_PROVER = 'exec -a /opt/kit/bin/rattle bash build --crate-name net_core "$@"'
+PROVER = "/opt/kit/bin/rattle"
+AS_PROVER = f'exec -a {PROVER} bash build --crate-name net_core "$@"'
 
 
 class Watching(unittest.TestCase):
@@ -22,7 +23,7 @@ class Watching(unittest.TestCase):
         Path(folder, "build").write_text("read -r line\n", encoding="utf-8")
         child = subprocess.Popen(["bash", "-c", AS_PROVER, "bash", *words], cwd=folder, stdin=subprocess.PIPE)
         self.addCleanup(child.communicate)
-        until(lambda: b"rattle" in Path(f"/proc/{child.pid}/cmdline").read_bytes())
+        until(lambda: Path(f"/proc/{child.pid}/cmdline").read_text(encoding="utf-8").startswith(PROVER))
         return child
 
     def test_provers_below_a_process(self) -> None:

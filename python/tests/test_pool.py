@@ -110,7 +110,8 @@ class Order(unittest.TestCase):
         self.assertEqual(found, [lost(item) if item in (30, 31, 59) else item for item in range(100)])
 
     def test_an_item_at_which_the_work_raises_is_the_only_one_lost(self) -> None:
-        said = [*range(20), "no item 20", *range(21, 40), "Odd: one and other (tests/test_pool.py:63)", *range(41, 60)]
+        odd = f"Odd: one and other (tests/test_pool.py:{failing.__code__.co_firstlineno + 3})"
+        said = [*range(20), "no item 20", *range(21, 40), odd, *range(41, 60)]
         self.assertEqual(list(in_order(failing, range(60), 2, Interruption(), lambda _, problem: problem)), said)
 
     def test_an_item_whose_result_cannot_be_sent_is_the_only_one_lost(self) -> None:
