@@ -2,6 +2,7 @@
 
 from __future__ import annotations
 
+import re
 from collections.abc import Callable, Iterable, Iterator
 from dataclasses import dataclass, field
 from functools import partial
@@ -16,7 +17,9 @@ from tml.explaining.nesting import end_edits, name_edits
 from tml.places import Places, characters
 from tml.tags.cutting import units_of_whole
 from tml.tags.edits import Edit, applied
+from tml.tags.similar import plain
 from tml.tags.source import Explanation, Source
+from tml.tags.units import Units
 
 from ..asking.looking import looked_at
 from ..asking.program import FAULT, CannotRun, Program
@@ -24,6 +27,9 @@ from ..files.finding import Found, counted, shown
 from ..files.replacing import replace_file
 from ..lint.kinds import Lint
 from ..lint.warnings import warnings_of
+from ..origins.restored import Found as Explained
+from ..origins.restored import found_origin, told
+from ..origins.search import is_near
 from .formats import located
 from .judgement import problem_of
 
@@ -33,6 +39,9 @@ ROUNDS = 64
 MOST_EDITS = 100_000
 """A kind of slip that is there more often is left."""
 
+MOST_CANDIDATES = 9
+"""How many candidates are printed for a fault that is left."""
+
 CONTEXT = 3
 """How many lines around a change are shown."""
 
@@ -40,13 +49,26 @@ FOUND_LINK = "is a symbolic link found in a folder: name it to mend what it lead
 
 
 Edits = Callable[[Source], Iterator[Edit]]
-FIXERS: dict[int, list[tuple[str, Edits]]] = {
-    faults.NOT_UTF8: [("the encoding", lambda source: converted(source.document))],
-    faults.BAD_REFERENCE: [("unescaped &", lambda source: reference_edits(source.document))],
+NOTATIONS: dict[int, list[tuple[str, Edits]]] = {
+    faults.NOT_UTF8: [("the encoding that the file declares", lambda source: converted(source.document, declared=True))],
+    faults.BAD_REFERENCE: [
+        ("HTML entities", lambda source: (edit for edit in reference_edits(source.document) if edit.end > edit.start + 1))
+    ],
     faults.BAD_MARKUP: [
         ("CDATA sections", lambda source: cdata_edits(source.document)),
         ("curly quotes", lambda source: quote_edits(source.document)),
     ],
+    faults.UNKNOWN_TAG: [("tags in other letters", lambda source: in_other_letters(source.document, name_edits(source)))],
+    faults.UNBALANCED: [("tags in other letters", lambda source: in_other_letters(source.document, end_edits(source)))],
+    faults.BAD_VALUE: [
+        ("values in other letters", lambda source: in_other_letters(source.document, cures_of_tags(source, faults.BAD_VALUE)))
+    ],
+}
+"""Notations that `tml` does not read and that can be read in one way only. No single keystroke makes one of what was right."""
+
+GUESSES: dict[int, list[tuple[str, Edits]]] = {
+    faults.NOT_UTF8: [("the encoding", lambda source: converted(source.document))],
+    faults.BAD_REFERENCE: [("unescaped &", lambda source: reference_edits(source.document))],
     faults.UNKNOWN_TAG: [("names of tags", name_edits)],
     faults.UNBALANCED: [("names of tags", end_edits)],
     faults.REPEATED: [("repeated attributes", lambda source: cures_of_tags(source, faults.REPEATED))],
@@ -57,13 +79,19 @@ FIXERS: dict[int, list[tuple[str, Edits]]] = {
     faults.DUPLICATE: [("identifiers", lambda source: cures_of_tags(source, faults.DUPLICATE))],
     faults.UNKNOWN_REFERENCE: [("references", lambda source: cures_of_tags(source, faults.UNKNOWN_REFERENCE))],
 }
-"""What may help against a fault in all of a document, each with the words for it."""
+"""What probably helps against a fault in all of a document, each with the words for it: made only with `--unsafe`."""
+
+ONE_KEYSTROKE = "one keystroke"
+"""The words for a keystroke that explains a fault alone."""
 
 ONE_CURE = "what is at fault"
-"""The words for the cure of one fault, where it is none of those."""
+"""The words for the cure of one fault, if it is none of those."""
 
 CURED_WARNINGS = {"tag-as-text": "tags without their <", "misspelled-attribute": "names of attributes", "value-form": "values of times"}
 """The kinds of warnings of which some have one cure only, each with the words for it."""
+
+OTHER_DATE = re.compile(rb"\d{4}([/.]?)\d\d\1\d\d")
+"""A date in another notation: with other signs between its parts, or none."""
 
 
 @dataclass(frozen=True)
@@ -84,6 +112,8 @@ class Fixed:
     after: bytes
     changes: list[str] = field(default_factory=list)
     left: Fault | None = None
+    candidates: tuple[Edit, ...] = ()
+    """What may have been meant where the fault is left, each an edit of the document after the changes."""
 
 
 @dataclass(frozen=True)
@@ -96,18 +126,18 @@ class FixReport:
     problem: bool = False
 
 
-def fix(program: Program, found: Found, writes: bool) -> FixReport:
-    """Mends one file, in memory or where that is wanted in its place."""
+def fix(program: Program, found: Found, writes: bool, unsafe: bool = False) -> FixReport:
+    """Fixes one file, in memory or, if `writes`, in its place. With `unsafe` by guesses too."""
     if found.problem is not None:
         return not_mended(found, found.problem)
     if found.is_found_link():
         return not_mended(found, FOUND_LINK)
-    return looked_at(found.place(), partial(fixed_at, program, found, writes), partial(not_mended, found))
+    return looked_at(found.place(), partial(fixed_at, program, found, writes, unsafe), partial(not_mended, found))
 
 
-def fixed_at(program: Program, found: Found, writes: bool, document: bytes) -> FixReport:
+def fixed_at(program: Program, found: Found, writes: bool, unsafe: bool, document: bytes) -> FixReport:
     """The same of a file that was read."""
-    fixed = mended(program, document)
+    fixed = mended(program, document, unsafe)
     if writes and fixed.changes:
         write(fixed, found)
     return FixReport(report(found.path, fixed, writes), bool(fixed.changes), fixed.left is not None)
@@ -118,13 +148,16 @@ def not_mended(found: Found, problem: str) -> FixReport:
     return FixReport(f"{shown(found.path)}: not mended: {shown(problem)}\n", problem=True)
 
 
-def mended(program: Program, document: bytes) -> Fixed:
-    """Mends a document, one kind of slip after another, as long as `tml` goes further each time, and then what it accepts as it is."""
+def mended(program: Program, document: bytes, unsafe: bool = False) -> Fixed:
+    """Fixes a document, one fault after another, as long as `tml` goes further each time, and then what it accepts as it is."""
     fixed = Fixed(document, document)
     fault = first_fault(program, document)
     for _ in range(ROUNDS):
-        step = next(steps(program, fixed.after, fault) if fault is not None else steps_of_warnings(program, fixed.after), None)
+        origin = found_origin(program, fixed.after, fault) if fault is not None else None
+        found = steps(program, fixed.after, fault, origin, unsafe) if fault is not None else steps_of_warnings(program, fixed.after, unsafe)
+        step = next(found, None)
         if step is None:
+            fixed.candidates = origin.candidates if origin is not None else ()
             break
         fixed.after, fault = step.after, step.following
         fixed.changes.append(step.words)
@@ -132,30 +165,69 @@ def mended(program: Program, document: bytes) -> Fixed:
     return fixed
 
 
-def steps(program: Program, document: bytes, fault: Fault) -> Iterator[Step]:
-    """The changes that help against a fault: after each the document is accepted, or its first fault comes later."""
+def steps(program: Program, document: bytes, fault: Fault, origin: Explained | None = None, unsafe: bool = True) -> Iterator[Step]:
+    """The changes that help against a fault: after each the document is accepted, or its first fault comes later.
+
+    Another notation comes first, then a keystroke that explains the fault alone. What is only probable needs `unsafe`, and is nothing
+    that a keystroke explains too.
+    """
     units = units_of_whole(program, document) if fault.number > faults.BAD_MARKUP else None
-    # Of a kind that is there too often no slip is mended alone either, or a document of them would be looked at again for each.
-    is_settled = False
-    for words, edits_of in FIXERS.get(fault.number, []):
-        edits = list(islice(edits_of(Source(document, units)), MOST_EDITS + 1))
-        step = helping(program, document, fault, words, edits) if len(edits) <= MOST_EDITS else None
-        is_settled = is_settled or step is not None or len(edits) > MOST_EDITS
+    yield from steps_by(program, document, fault, units, NOTATIONS)
+    if origin is not None and origin.restored is not None:
+        step = helping(program, document, fault, ONE_KEYSTROKE, [origin.restored])
         if step is not None:
             yield step
-    step = None if is_settled else helping(program, document, fault, ONE_CURE, explain(program, document, fault).edits)
+    if not unsafe:
+        return
+    # Of a kind that is there too often no slip is fixed alone either, or a document of them would be looked at again for each.
+    guesses = list(steps_by(program, document, fault, units, GUESSES))
+    yield from guesses
+    step = None if guesses else helping(program, document, fault, ONE_CURE, explain(program, document, fault).edits)
     if step is not None:
         yield step
 
 
-def steps_of_warnings(program: Program, document: bytes) -> Iterator[Step]:
+def steps_by(
+    program: Program, document: bytes, fault: Fault, units: Units | None, table: dict[int, list[tuple[str, Edits]]]
+) -> Iterator[Step]:
+    """The changes by the rows of a table for a fault that help against it. What is there too often is left."""
+    for words, edits_of in table.get(fault.number, []):
+        edits = list(islice(edits_of(Source(document, units)), MOST_EDITS + 1))
+        step = helping(program, document, fault, words, edits) if len(edits) <= MOST_EDITS else None
+        if step is not None:
+            yield step
+
+
+def in_other_letters(document: bytes, edits: Iterable[Edit]) -> Iterator[Edit]:
+    """The edits that change the case of more than one letter, the sign between words, or what nobody sees, and nothing else."""
+    for edit in edits:
+        old, new = (text.decode("utf-8", "surrogateescape") for text in (document[edit.start : edit.end], edit.text))
+        differing = sum(one != other for one, other in zip(old, new, strict=False)) + abs(len(old) - len(new))
+        if plain(old) == plain(new) and (differing > 1 or not old.isascii()):
+            yield edit
+
+
+def steps_of_warnings(program: Program, document: bytes, unsafe: bool) -> Iterator[Step]:
     """The changes of what is suspect in an accepted document and has one cure only: after each it is accepted still."""
     source = Source(document, units_of_whole(program, document))
     for name, words in CURED_WARNINGS.items():
         edits = [edit for warning in warnings_of(program, source, Lint(frozenset({name}))) for edit in warning.edits]
+        if not unsafe:
+            edits = [edit for edit in edits if is_sure(document, name, edit)]
         changed = applied(document, edits)
         if changed != document and first_fault(program, changed) is None:
             yield Step(f"{words} ({counted(len(edits), 'change')})", edits, changed, None)
+
+
+def is_sure(document: bytes, warning: str, edit: Edit) -> bool:
+    """Whether the cure of a warning is its only explanation: a `<` lost after a blank, a name that is one keystroke away, a date in
+    another notation."""
+    old = document[edit.start : edit.end]
+    if warning == "tag-as-text":
+        return document[edit.start - 1 : edit.start] in (b"\n", b" ", b">") and edit.text == b"<" and not old
+    if warning == "misspelled-attribute":
+        return is_near(old.decode("utf-8", "replace"), edit.text.decode())
+    return OTHER_DATE.fullmatch(old) is not None
 
 
 def helping(program: Program, document: bytes, fault: Fault, words: str, edits: list[Edit]) -> Step | None:
@@ -252,7 +324,11 @@ def report(path: str, fixed: Fixed, writes: bool) -> str:
     if fixed.left is not None:
         then = "then left" if changed and not writes else "left"
         place = Places(fixed.after).place(fixed.left.offset)
-        lines.append(f"{located(path, place)}: {then} to mend: {fixed.left.title()} at byte {fixed.left.offset}; see `tml-corpus check`")
+        lines.append(f"{located(path, place)}: {then} to fix: {fixed.left.title()} at byte {fixed.left.offset}; see `tml-corpus check`")
+        places = Places(fixed.after)
+        shown_candidates = [told(fixed.after, edit, places) for edit in fixed.candidates[:MOST_CANDIDATES]]
+        more = [f"  or {len(fixed.candidates) - MOST_CANDIDATES} others"] if len(fixed.candidates) > MOST_CANDIDATES else []
+        lines += [*(f"  perhaps {one}" for one in shown_candidates), *more]
     changes = difference(path, fixed) if changed and not writes else ""
     return changes + "".join(line + "\n" for line in lines)
 

@@ -17,6 +17,7 @@ class Options(NamedTuple):
     """What is asked of `fix`."""
 
     write: bool
+    unsafe: bool
 
 
 def command(run: Run, options: Options) -> int:
@@ -30,7 +31,7 @@ def command(run: Run, options: Options) -> int:
         reports["problem"] += report.problem
         return report.text
 
-    work = partial(fix, run.program, writes=options.write)
+    work = partial(fix, run.program, writes=options.write, unsafe=options.unsafe)
     print_each(found, run.each(work, found, lambda one: not_mended(one, ENDED)), reported)
     changed, left, problems = reports["changed"], reports["left"], reports["problem"]
     done = "mended" if options.write else "can be mended (--write does it)"
