@@ -4,8 +4,8 @@ from __future__ import annotations
 
 import re
 from collections.abc import Callable, Iterable, Iterator
-from dataclasses import dataclass, field
-from functools import partial
+from dataclasses import dataclass, field, replace
+from functools import cache, partial
 from itertools import chain, islice
 
 from tml.explaining import faults
@@ -102,6 +102,8 @@ class Step:
     edits: list[Edit]
     after: bytes
     following: Fault | None
+    is_sure: bool = False
+    """Whether it may be made without `--unsafe`."""
 
 
 @dataclass
@@ -153,11 +155,13 @@ def mended(program: Program, document: bytes, unsafe: bool = False) -> Fixed:
     fixed = Fixed(document, document)
     fault = first_fault(program, document)
     for _ in range(ROUNDS):
-        origin = found_origin(program, fixed.after, fault) if fault is not None else None
-        found = steps(program, fixed.after, fault, origin, unsafe) if fault is not None else steps_of_warnings(program, fixed.after, unsafe)
+        found = steps_of_warnings(program, fixed.after, unsafe)
+        if fault is not None:
+            origin = cache(partial(found_origin, program, fixed.after, fault))
+            found = steps(program, fixed.after, fault, origin, unsafe)
         step = next(found, None)
         if step is None:
-            fixed.candidates = origin.candidates if origin is not None else ()
+            fixed.candidates = origin().candidates if fault is not None else ()
             break
         fixed.after, fault = step.after, step.following
         fixed.changes.append(step.words)
@@ -165,26 +169,27 @@ def mended(program: Program, document: bytes, unsafe: bool = False) -> Fixed:
     return fixed
 
 
-def steps(program: Program, document: bytes, fault: Fault, origin: Explained | None = None, unsafe: bool = True) -> Iterator[Step]:
+def steps(program: Program, document: bytes, fault: Fault, origin: Callable[[], Explained], unsafe: bool) -> Iterator[Step]:
     """The changes that help against a fault: after each the document is accepted, or its first fault comes later.
 
     Another notation comes first, then a keystroke that explains the fault alone. What is only probable needs `unsafe`, and is nothing
     that a keystroke explains too.
     """
     units = units_of_whole(program, document) if fault.number > faults.BAD_MARKUP else None
-    yield from steps_by(program, document, fault, units, NOTATIONS)
-    if origin is not None and origin.restored is not None:
-        step = helping(program, document, fault, ONE_KEYSTROKE, [origin.restored])
-        if step is not None:
-            yield step
+    for step in steps_by(program, document, fault, units, NOTATIONS):
+        yield replace(step, is_sure=True)
+    restored = origin().restored
+    explained = helping(program, document, fault, ONE_KEYSTROKE, [restored]) if restored is not None else None
+    if explained is not None:
+        yield replace(explained, is_sure=True)
     if not unsafe:
         return
     # Of a kind that is there too often no slip is fixed alone either, or a document of them would be looked at again for each.
     guesses = list(steps_by(program, document, fault, units, GUESSES))
     yield from guesses
-    step = None if guesses else helping(program, document, fault, ONE_CURE, explain(program, document, fault).edits)
-    if step is not None:
-        yield step
+    cure = None if guesses else helping(program, document, fault, ONE_CURE, explain(program, document, fault).edits)
+    if cure is not None:
+        yield cure
 
 
 def steps_by(
@@ -227,7 +232,7 @@ def is_sure(document: bytes, warning: str, edit: Edit) -> bool:
         return document[edit.start - 1 : edit.start] in (b"\n", b" ", b">") and edit.text == b"<" and not old
     if warning == "misspelled-attribute":
         return is_near(old.decode("utf-8", "replace"), edit.text.decode())
-    return OTHER_DATE.fullmatch(old) is not None
+    return warning == "value-form" and OTHER_DATE.fullmatch(old) is not None
 
 
 def helping(program: Program, document: bytes, fault: Fault, words: str, edits: list[Edit]) -> Step | None:

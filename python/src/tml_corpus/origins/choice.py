@@ -152,14 +152,16 @@ class Choice:
         return Counter(self.unlikely(origin, lambda tag: True))
 
     def own_blemishes(self, origin: Origin) -> Counter[str]:
-        """What is unlikely about the changed place itself; a letter of the text is always in doubt."""
+        """What is unlikely about the changed place itself; a letter of the text is always in doubt, and so is a sign that it may have had."""
         key, part = origin.keystroke, self.part(origin)
         start = key.start - self.low
         end = start + len(key.text)
         found = Counter(self.unlikely(origin, lambda tag: tag.start <= end and tag.end >= start))
         del found["gap"]
         is_in_tag = any(tag.start <= start < tag.end for tag in tags_of(part))
-        if key.slip in (Slip.LOST, Slip.NEIGHBOUR) and not is_in_tag:
+        is_next_to_tag = any(tag.start <= start <= tag.end for tag in tags_of(part))
+        struck = self.draft.text[key.start : key.end] if key.slip is Slip.STRUCK else ""
+        if key.slip in (Slip.LOST, Slip.NEIGHBOUR) and not is_in_tag or struck == "&" or (struck == "<" and not is_next_to_tag):
             found["typed text"] += 1
         return found
 

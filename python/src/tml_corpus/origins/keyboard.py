@@ -45,6 +45,8 @@ def meant_by_keys() -> dict[str, str]:
                 found[high].add(shifted[near])
                 # A key next to the right one may be struck before shift is.
                 found[low].update(shifted[near] if plain[near].isalpha() else "")
+    # One slash is written for the other.
+    found["\\"].add("/")
     return {typed: "".join(sorted(meant)) for typed, meant in found.items()}
 
 
