@@ -73,14 +73,14 @@ def two_slips(random: Random, text: str) -> list[str]:
             return [earlier + later[middle:], earlier + text[middle:], later]
 
 
-def wide_slip(random: Random, text: str) -> str:
-    """The text with two characters wrong at one place."""
+def wide_slip(random: Random, text: str) -> list[str]:
+    """The text with two characters wrong at one place, and with the first of them alone."""
     while True:
         once = one_slip(random, text)
         place = next(place for place, pair in enumerate(zip(text + "\0", once + "\0", strict=False)) if pair[0] != pair[1])
         twice = slipped(random, once, place - 1, place + 3)
         if twice is not None and twice != text:
-            return twice
+            return [twice, once]
 
 
 def said(text: str) -> list[object]:
@@ -98,13 +98,13 @@ def said(text: str) -> list[object]:
     return found
 
 
-def outcome(fixed: Fixed, faulty: str, meant: list[list[object]]) -> str:
+def outcome(fixed: Fixed, meant: list[list[object]]) -> str:
     """What came of a slip: `meant` is what the original says, and what each document says that has one slip fewer."""
     after = fixed.after.decode("utf-8")
     if not fixed.changes and fixed.left is None:
         return "accepted"
     if fixed.left is None:
-        return "restored" if said(after) == meant[0] else "damage"
+        return "restored" if said(after) in meant else "damage"
     if fixed.changes and said(after) not in meant:
         return "other"
     if not fixed.candidates:
@@ -132,17 +132,22 @@ def share(counts: Counter[str], *parts: str, of: tuple[str, ...] = OUTCOMES[1:])
     return sum(counts[one] for one in parts) / whole if whole else 1.0
 
 
+def slips(program: Program, random: Random, text: str, how: str) -> list[str]:
+    """The text with its slips, followed by the texts with one slip fewer; of two slips each alone is a fault."""
+    if how == "--two":
+        found = two_slips(random, text)
+        return found if all(program.check(one.encode()).status for one in found[1:]) else slips(program, random, text, how)
+    return wide_slip(random, text) if how == "--wide" else [one_slip(random, text)]
+
+
 def cases(program: Program, count: int, seed: int, how: str) -> Iterator[tuple[str, str, list[str]]]:
-    """So many slips: the style, the original, and the document with its slip, followed by those with one slip fewer, which are faulty."""
+    """So many slips: the style, the original, and the document with its slips, followed by those with one slip fewer."""
     styles = list(STYLES.items())
     for number in range(count):
         random = Random(f"{seed} {number}")
         style, write = styles[number % len(styles)]
         text = write(random)
-        slips = two_slips(random, text) if how == "--two" else [(wide_slip if how == "--wide" else one_slip)(random, text)]
-        while not all(program.check(fewer.encode()).status for fewer in slips[1:]):
-            slips = two_slips(random, text)
-        yield style, text, slips
+        yield style, text, slips(program, random, text, how)
 
 
 def tally(program: Program, count: int, seed: int, how: str = "") -> Tally:
@@ -152,7 +157,7 @@ def tally(program: Program, count: int, seed: int, how: str = "") -> Tally:
         begun = time.process_time()
         fixed = mended(program, faulty.encode())
         found.seconds.append(time.process_time() - begun)
-        name = outcome(fixed, faulty, [said(text), *map(said, fewer)])
+        name = outcome(fixed, [said(text), *map(said, fewer)])
         found.counts[style][name] += 1
         if name not in OUTCOMES[:3]:
             found.notable.append(f"{name} ({style}): {near(text, faulty)}, then {near(faulty, fixed.after.decode())}: {fixed.changes}")

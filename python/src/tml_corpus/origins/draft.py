@@ -65,6 +65,14 @@ def tags_of(text: str) -> Iterator[Tag]:
         yield Tag(found.start(), found.end(), name[0], kind, pairs)
 
 
+def balance(tags: Iterable[Tag]) -> Counter[str]:
+    """How many more start tags than end tags of each name some tags are."""
+    found: Counter[str] = Counter()
+    for tag in tags:
+        found[tag.name] += (tag.kind == "start") - (tag.kind == "end")
+    return found
+
+
 class Draft:
     """A document that has a fault: its text, its tags, which tags are open where, and what refers to what."""
 
@@ -123,6 +131,17 @@ class Draft:
                 path = above if name == tag.name else BROKEN
             found.append(path)
         return found[::-1]
+
+    @cached_property
+    def unbalanced(self) -> Counter[str]:
+        """How many more start tags than end tags of each name there are."""
+        return Counter({name: number for name, number in balance(self.tags).items() if number})
+
+    def comes_apart(self, first: int, last: int, tags: Sequence[Tag]) -> int:
+        """How many more tags lack their other half with some tags in the place of others."""
+        changed = balance(tags)
+        changed.subtract(balance(self.tags[first:last]))
+        return sum(abs(self.unbalanced[name] + number) - abs(self.unbalanced[name]) for name, number in changed.items())
 
     def within(self, start: int, end: int) -> tuple[int, int]:
         """The numbers of the first tag from a place on, and of the first one from another place on."""

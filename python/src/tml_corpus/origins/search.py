@@ -192,21 +192,30 @@ class Search:
         return False
 
     def goes_further(self, origin: Origin, tags: list[Tag]) -> bool:
-        """Whether the first fault is a later one, and outside of the stretch."""
+        """Whether the first fault is a later one and outside of the stretch, and no more tags lack their other half."""
         draft, fault, (first, last) = self.draft, self.fault, self.draft.within(origin.start, origin.end)
         until = draft.within(0, fault.offset + 1)[1]
-        if draft.before[first] == BROKEN or draft.after(draft.before[first], [*tags, *draft.tags[last:until]]) == BROKEN:
+        if draft.comes_apart(first, last, tags) > (-1 if fault.number in (faults.UNBALANCED, faults.UNCLOSED) else 0):
+            return False
+        nests = draft.before[first] != BROKEN and draft.after(draft.before[first], [*tags, *draft.tags[last:until]]) != BROKEN
+        if not nests and phase(fault.number) >= phase(faults.UNBALANCED):
             return False
         if fault.number == faults.UNKNOWN_REFERENCE and not self.is_found(origin, tags):
             return False
         if fault.number == faults.DUPLICATE and not draft.are_single(first, last, tags, self.own()):
             return False
-        following = self.first_fault(origin) if self.are_good(origin, tags) else fault
+        following = self.first_fault(origin) if self.are_good(origin, tags) and not self.may_be_misnamed(tags) else fault
         if following is None:
             return True
         moved = fault.offset + (len(origin.stretch) - (origin.end - origin.start)) * (origin.keystroke.start <= fault.offset)
         is_later = (phase(following.number), following.offset) > (phase(fault.number), moved)
         return is_later and not origin.start <= following.offset < origin.start + len(origin.stretch)
+
+    def may_be_misnamed(self, tags: list[Tag]) -> bool:
+        """Whether no tag refers to one of some tags, and a reference in vain may mean it."""
+        come = {one for one in (tag.declares() for tag in tags) if one is not None}
+        wanted = {name for name, value in self.draft.lacking if (name, value) not in come}
+        return any(one not in self.draft.referred and one[0] in wanted for one in come)
 
     def own(self) -> list[tuple[str, str]]:
         """What the tag at fault declares."""
