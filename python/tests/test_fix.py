@@ -12,11 +12,10 @@ LINK = '<TLINK eventInstanceID="i1" relatedToTime="t1" relType="BEFORE"/>'
 
 
 class Fixes(CorpusTest):
-    def test_one_cure(self) -> None:
-        rows = [
-            ("AT&T &amp; S&P &#38; &eacute;&nbsp;", "AT&amp;T &amp; S&amp;P &#38; é&#160;"),
-            ("<!-- a & b -->&", "<!-- a & b -->&amp;"),
-            ("<![CDATA[a & <b>]]> &", "a &amp; &lt;b&gt; &amp;"),
+    def test_notations_and_single_keystrokes(self) -> None:
+        self.check_rows([
+            ("A &#38; &eacute;&nbsp;", "A &#38; é&#160;"),
+            ("<![CDATA[a & <b>]]>", "a &amp; &lt;b&gt;"),
             ("<P a=\u201cx\u201d b='\u201c' c=\u2018y\u2019>\u201cz\u201d</P>", '<P a="x" b=\'\u201c\' c="y">\u201cz\u201d</P>'),
             ("<Event eid='e1' class='state'>x</event>", "<EVENT eid='e1' class='STATE'>x</EVENT>"),
             ("<Text><P>x</p></TEXT>", "<TEXT><P>x</P></TEXT>"),

@@ -7,8 +7,9 @@ from collections import Counter, defaultdict
 from collections.abc import Callable, Iterator, Sequence
 from dataclasses import dataclass, field
 
+from tml.explaining.attributes import OTHER_RELATIONS, SAME_RELATIONS, UNCLEAR_RELATIONS
 from tml.explaining.faults import Fault
-from tml.tags.profile import IDENTIFIERS, ROOT, WRAPPERS
+from tml.tags.profile import IDENTIFIERS, ROOT, TABLE, WRAPPERS, Kind
 
 from .draft import SPACE, Draft, Tag, tags_of
 from .keyboard import Slip
@@ -16,6 +17,9 @@ from .search import NOT_TEXT, Check, Origin, Search
 
 BARE = (ROOT, "DOC", "BODY", "DCT")
 """The tags that mostly have no text of their own."""
+
+MEANT_ELSEWHERE = OTHER_RELATIONS.keys() | SAME_RELATIONS.keys() | UNCLEAR_RELATIONS.keys()
+"""Relations of other schemes."""
 
 MOST_COMPARED = 400
 """Of more origins none is set aside."""
@@ -74,6 +78,11 @@ def letters(tag: Tag) -> str:
     """How the identifier of a tag begins, up to its first digit."""
     found = re.match(r"\D*", tag.identifier())
     return found[0] if found else ""
+
+
+def shape(identifier: str) -> str:
+    """An identifier whatever its numbers are."""
+    return re.sub(r"\d+", "0", identifier)
 
 
 def gap(tag: Tag, text: str) -> str:
@@ -163,7 +172,25 @@ class Choice:
         struck = self.draft.text[key.start : key.end] if key.slip is Slip.STRUCK else ""
         if key.slip in (Slip.LOST, Slip.NEIGHBOUR) and not is_in_tag or struck == "&" or (struck == "<" and not is_next_to_tag):
             found["typed text"] += 1
+        if any(self.may_be_meant(origin)):
+            found["value"] += 1
         return found
+
+    def may_be_meant(self, origin: Origin) -> Iterator[bool]:
+        """For each changed value, whether it may have been meant: as one of another scheme, or as the identifier of a tag that was lost."""
+        first, last = self.draft.within(origin.start, origin.end)
+        old = {name: value for tag in self.draft.tags[first:last] for name, value in tag.pairs}
+        for tag in tags_of(origin.stretch):
+            for name, value in tag.pairs if tag.name in TABLE else ():
+                row, was = TABLE[tag.name].get(name), old.get(name, value)
+                if row is None or was == value:
+                    continue
+                if row.form.kind is Kind.LISTED:
+                    yield was in MEANT_ELSEWHERE
+                if row.form.kind is Kind.REFERENCE:
+                    shapes = {shape(one) for kind, one in self.draft.declared if kind == row.form.target}
+                    is_needed = name == "eventID" and (row.form.target, value) not in self.draft.referred
+                    yield shape(was) in shapes and not is_needed
 
     def unlikely(self, origin: Origin, looks_at: Callable[[Tag], bool]) -> Iterator[str]:
         """What is unlikely in the common stretch of an origin: in its text, and about the tags that are looked at."""
@@ -195,7 +222,7 @@ class Choice:
             yield "glued"
         if has_some and right.isalnum() and kind_of(right) not in {kind_of(text[one.end : one.end + 1]) for one in alike}:
             yield "glued"
-        if tag.kind == "empty" and tag.name in (ROOT, *WRAPPERS, "EVENT", "SIGNAL") and not alike:
+        if tag.kind == "empty" and tag.name in (ROOT, *WRAPPERS, "EVENT", "SIGNAL", "TIMEX3") and not alike:
             yield "shape"
         named = [one for kind in ("start", "end", "empty") for one in self.style.by_name.get((tag.name, kind), ())]
         if SPACED_END.search(written) and not any(SPACED_END.search(text[one.start : one.end]) for one in named):

@@ -209,7 +209,14 @@ class Search:
             return True
         moved = fault.offset + (len(origin.stretch) - (origin.end - origin.start)) * (origin.keystroke.start <= fault.offset)
         is_later = (phase(following.number), following.offset) > (phase(fault.number), moved)
-        return is_later and not origin.start <= following.offset < origin.start + len(origin.stretch)
+        return is_later and not self.is_of_origin(origin, tags, following.offset)
+
+    def is_of_origin(self, origin: Origin, tags: list[Tag], place: int) -> bool:
+        """Whether a place is in the stretch, and not where a tag begins that is as it was."""
+        start = origin.keystroke.start - origin.start
+        end = max(start + len(origin.keystroke.text), start + 1)
+        as_it_was = any(tag.start == place - origin.start and (tag.start >= end or tag.end <= start) for tag in tags)
+        return origin.start <= place < origin.start + len(origin.stretch) and not as_it_was
 
     def may_be_misnamed(self, tags: list[Tag]) -> bool:
         """Whether no tag refers to one of some tags, and a reference in vain may mean it."""
