@@ -134,7 +134,7 @@ class SameAnswers(LibraryTest):
     def test_other_commands(self) -> None:
         self.files()
         self.files("e")
-        self.assertIn(b"can be mended", self.same("fix", "d")[1])
+        self.assertIn(b"can be fixed", self.same("fix", "d")[1])
         self.assertIn(b"unknown, first at", self.same("tags", "d")[1])
         self.assertIn(b"precision", self.same("agree", "--links", "d/samples", "e/samples")[1])
         self.same("agree", "--touching", "--format", "json", "d", "e")

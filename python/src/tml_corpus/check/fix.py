@@ -1,4 +1,4 @@
-"""What has one cure only, mended: in a copy, which `tml` has to accept, or to go further in, before it is shown or written."""
+"""What `fix` writes: in a copy, which `tml` has to accept, or to go further in, before it is shown or written."""
 
 from __future__ import annotations
 
@@ -34,7 +34,7 @@ from .formats import located
 from .judgement import problem_of
 
 ROUNDS = 64
-"""How many kinds of slips are mended in one document at most, one after another."""
+"""How many kinds of slips are fixed in one document at most, one after another."""
 
 MOST_EDITS = 100_000
 """A kind of slip that is there more often is left."""
@@ -45,7 +45,7 @@ MOST_CANDIDATES = 9
 CONTEXT = 3
 """How many lines around a change are shown."""
 
-FOUND_LINK = "is a symbolic link found in a folder: name it to mend what it leads to"
+FOUND_LINK = "is a symbolic link found in a folder: name it to fix what it leads to"
 
 
 Edits = Callable[[Source], Iterator[Edit]]
@@ -96,7 +96,7 @@ OTHER_DATE = re.compile(rb"\d{4}([/.]?)\d\d\1\d\d")
 
 @dataclass(frozen=True)
 class Step:
-    """A kind of slip that was mended: the words for it, its edits, the document after them, and the fault that is first then."""
+    """A kind of slip that was fixed: the words for it, its edits, the document after them, and the fault that is first then."""
 
     words: str
     edits: list[Edit]
@@ -108,7 +108,7 @@ class Step:
 
 @dataclass
 class Fixed:
-    """A document that was mended as far as there is one cure only, what was changed, and the fault that remains."""
+    """A document that was fixed as far as there is one cure only, what was changed, and the fault that remains."""
 
     before: bytes
     after: bytes
@@ -120,7 +120,7 @@ class Fixed:
 
 @dataclass(frozen=True)
 class FixReport:
-    """What became of one file: what is printed of it, whether it can be or was mended, and whether a fault is left."""
+    """What became of one file: what is printed of it, whether it can be or was fixed, and whether a fault is left."""
 
     text: str
     changed: bool = False
@@ -131,10 +131,10 @@ class FixReport:
 def fix(program: Program, found: Found, writes: bool, unsafe: bool = False) -> FixReport:
     """Fixes one file, in memory or, if `writes`, in its place. With `unsafe` by guesses too."""
     if found.problem is not None:
-        return not_mended(found, found.problem)
+        return not_fixed(found, found.problem)
     if found.is_found_link():
-        return not_mended(found, FOUND_LINK)
-    return looked_at(found.place(), partial(fixed_at, program, found, writes, unsafe), partial(not_mended, found))
+        return not_fixed(found, FOUND_LINK)
+    return looked_at(found.place(), partial(fixed_at, program, found, writes, unsafe), partial(not_fixed, found))
 
 
 def fixed_at(program: Program, found: Found, writes: bool, unsafe: bool, document: bytes) -> FixReport:
@@ -145,9 +145,9 @@ def fixed_at(program: Program, found: Found, writes: bool, unsafe: bool, documen
     return FixReport(report(found.path, fixed, writes), bool(fixed.changes), fixed.left is not None)
 
 
-def not_mended(found: Found, problem: str) -> FixReport:
+def not_fixed(found: Found, problem: str) -> FixReport:
     """The report of a file that could not be looked at or written."""
-    return FixReport(f"{shown(found.path)}: not mended: {shown(problem)}\n", problem=True)
+    return FixReport(f"{shown(found.path)}: not fixed: {shown(problem)}\n", problem=True)
 
 
 def mended(program: Program, document: bytes, unsafe: bool = False) -> Fixed:
@@ -270,7 +270,7 @@ def first_fault(program: Program, document: bytes) -> Fault | None:
     return fault
 
 
-def difference(path: str, fixed: Fixed, how: str = "mended") -> str:
+def difference(path: str, fixed: Fixed, how: str = "fixed") -> str:
     """The changes line by line."""
     old, new = lines_of(fixed.before), lines_of(fixed.after)
     if len(old) != len(new):
@@ -322,10 +322,10 @@ def printed(line: bytes) -> str:
 
 
 def report(path: str, fixed: Fixed, writes: bool) -> str:
-    """What is printed of one file: the changes, unless they are written, and what is left to mend."""
+    """What is printed of one file: the changes, unless they are written, and what is left to fix."""
     lines, changed = [], bool(fixed.changes)
     if changed:
-        lines.append(f"{shown(path)}: {'mended' if writes else 'can be mended'}: {', '.join(fixed.changes)}")
+        lines.append(f"{shown(path)}: {'fixed' if writes else 'can be fixed'}: {', '.join(fixed.changes)}")
     if fixed.left is not None:
         then = "then left" if changed and not writes else "left"
         place = Places(fixed.after).place(fixed.left.offset)
@@ -339,5 +339,5 @@ def report(path: str, fixed: Fixed, writes: bool) -> str:
 
 
 def write(fixed: Fixed, found: Found) -> None:
-    """Writes a mended document, if the file is still what was mended."""
+    """Writes a fixed document, if the file is still what was fixed."""
     replace_file(found.place(), fixed.after, fixed.before, found.top)

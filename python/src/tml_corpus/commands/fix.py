@@ -7,7 +7,7 @@ from collections import Counter
 from functools import partial
 from typing import NamedTuple
 
-from ..check.fix import FixReport, fix, not_mended
+from ..check.fix import FixReport, fix, not_fixed
 from ..command_line.run import Run, print_each
 from ..command_line.statuses import ENDED, Status
 from ..files.finding import Found, counted
@@ -21,7 +21,7 @@ class Options(NamedTuple):
 
 
 def command(run: Run, options: Options) -> int:
-    """Prints or writes what has one cure only, and answers the status."""
+    """Prints or writes what is certain, or with `--unsafe` probable, and answers the status."""
     found = run.files.search()
     reports: Counter[str] = Counter()
 
@@ -32,9 +32,9 @@ def command(run: Run, options: Options) -> int:
         return report.text
 
     work = partial(fix, run.program, writes=options.write, unsafe=options.unsafe)
-    print_each(found, run.each(work, found, lambda one: not_mended(one, ENDED)), reported)
+    print_each(found, run.each(work, found, lambda one: not_fixed(one, ENDED)), reported)
     changed, left, problems = reports["changed"], reports["left"], reports["problem"]
-    done = "mended" if options.write else "can be mended (--write does it)"
+    done = "fixed" if options.write else "can be fixed (--write does it)"
     sys.stdout.write(f"{counted(len(found), 'file')}: {changed} {done}, {left} still faulty, {problems} skipped\n")
     if run.is_interrupted():
         sys.stdout.write("interrupted: not all files were looked at\n")
