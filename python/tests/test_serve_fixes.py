@@ -18,7 +18,6 @@ from stories import Story
 from tml.statuses import RELATIONS
 from tml.tags.profile import CLASS
 from tml_corpus.asking.program import File, Reply
-from tml_corpus.check.fix import steps
 from tml_corpus.check.judgement import Judgement
 from tml_corpus.check.placed import PlacedFault, PlacedWarning
 from tml_corpus.lint.links import TO_EVENT, TO_TIME
@@ -86,10 +85,10 @@ class Sentences(CorpusTest):
 
     def check_offered(self, state: OpenDocument, judgement: Judgement) -> bool:
         """Whether something can be done that is printed first of a document; then it is among what is offered."""
-        first, fault = first_of(judgement), state.fault
+        first = first_of(judgement)
         found = fixes(state, first.mark.start.offset, first.mark.end.offset)
         offered = [done(state, one) for one in found]
-        wanted = [step.after for step in steps(state.program, state.text, fault)] if fault is not None else []
+        wanted = [step.after for step in state.steps]
         if not any(one["isPreferred"] for one in found) and not re.search("add <MAKEINSTANCE", first.text):
             for pattern, do in DOING:
                 said = re.search(pattern, first.text)

@@ -100,13 +100,24 @@ def ends_within_character(document: bytes, offset: int) -> bool:
     return True
 
 
-def converted(document: bytes) -> Iterator[Edit]:
-    """The edit that turns the document into UTF-8, its declaration included; none where its encoding is not clear.
+def is_declared(document: bytes, guess: str) -> bool:
+    """Whether an encoding is what the declaration names, or the first bytes say."""
+    declared = DECLARED.search(document[:1000])
+    if document.startswith((b"\xff\xfe", b"\xfe\xff")):
+        return True
+    with suppress(LookupError):
+        return declared is not None and codecs.lookup(declared[1].decode()).name == guess
+    return False
 
-    There is none either where its root is not `TimeML`: bytes of almost any file can be read as Latin-1.
+
+def converted(document: bytes, *, declared: bool = False) -> Iterator[Edit]:
+    """The edit that turns the document into UTF-8, its declaration included; none if its encoding is not clear, or not `declared` if it
+    has to be.
+
+    There is none either if its root is not `TimeML`: bytes of almost any file can be read as Latin-1.
     """
     guess = guessed(document, document.decode("utf-8", "surrogateescape"))
-    if guess is not None:
+    if guess is not None and (not declared or is_declared(document, guess)):
         with suppress(ValueError):
             text = document.decode(guess)
             text = NAMED.sub(r"\1UTF-8", text[:1000], count=1) + text[1000:]

@@ -6,7 +6,7 @@ import os
 from bisect import bisect_right
 from collections.abc import Callable
 from dataclasses import dataclass
-from functools import cached_property
+from functools import cached_property, partial
 from urllib.parse import unquote, urlsplit
 
 from tml.explaining.explain import explain
@@ -35,6 +35,7 @@ from ..document.wrappers import Unwrapping
 from ..files.finding import Found
 from ..lint.kinds import Lint
 from ..lint.warnings import Finding, warnings_of
+from ..origins.restored import found_origin
 from .places import ClientPlaces
 
 
@@ -158,8 +159,10 @@ class OpenDocument:
 
     @cached_property
     def steps(self) -> list[Step]:
-        """What mends all slips of the kind of its first fault."""
-        return [] if self.fault is None else list(steps(self.program, self.text, self.fault))
+        """What fixes its first fault: by one keystroke, or with all slips of its kind."""
+        if self.fault is None:
+            return []
+        return list(steps(self.program, self.text, self.fault, partial(found_origin, self.program, self.text, self.fault), unsafe=True))
 
     def judgement(self, *, further: bool) -> Judgement:
         """Its fault, with further ones where they are wanted, or what is suspect in it."""

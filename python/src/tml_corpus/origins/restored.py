@@ -1,0 +1,82 @@
+"""The origin of a faulty document as an edit of it, or what it may have been; and a check of the edit by other code than found it."""
+
+from __future__ import annotations
+
+import re
+from dataclasses import dataclass
+
+from tml.explaining.faults import NOT_UTF8, Fault, read_fault
+from tml.places import Places
+from tml.tags.edits import Edit, applied
+
+from ..asking.program import FAULT, Program
+from .choice import Restored, chosen
+from .draft import Draft
+from .search import Origin
+
+NOT_IN_TEXT = (b">", b'="', b"='")
+"""What a text hardly has, and a tag has that became text."""
+
+WELL_FORMED = re.compile(rb"<!--.*?-->|<[^<>]*>", re.DOTALL)
+
+
+@dataclass(frozen=True)
+class Found:
+    """What one keystroke explains of a fault: the edit that undoes it if only one meaning is left, or an edit for each meaning."""
+
+    restored: Edit | None = None
+    candidates: tuple[Edit, ...] = ()
+
+
+def found_origin(program: Program, document: bytes, fault: Fault) -> Found:
+    """What one keystroke explains of the first fault of a document."""
+    if fault.number == NOT_UTF8:
+        return Found()
+    text = document.decode("utf-8")
+    draft = Draft(text)
+    result = chosen(
+        draft, Fault(fault.number, fault.name, len(document[: fault.offset].decode())), lambda text: first_fault_of(program, text)
+    )
+    if isinstance(result, Restored):
+        edit = edit_of(text, result.origin)
+        if is_one_keystroke(document, edit):
+            return Found(edit)
+        return Found(candidates=(edit,))
+    return Found(candidates=tuple(edit_of(text, origin) for origin in result.origins) if result is not None else ())
+
+
+def first_fault_of(program: Program, text: str) -> Fault | None:
+    """The first fault of a text, whose place counts characters."""
+    document = text.encode("utf-8")
+    reply = program.check(document)
+    fault = read_fault(reply.text) if reply.status == FAULT else None
+    if fault is None:
+        return None if reply.status == 0 else Fault(0, "", 0)
+    return Fault(fault.number, fault.name, len(document[: fault.offset].decode("utf-8", "ignore")))
+
+
+def edit_of(text: str, origin: Origin) -> Edit:
+    """The keystroke of an origin as an edit of bytes."""
+    key = origin.keystroke
+    start = len(text[: key.start].encode("utf-8"))
+    return Edit(start, start + len(text[key.start : key.end].encode("utf-8")), key.text.encode("utf-8"))
+
+
+def is_one_keystroke(document: bytes, edit: Edit) -> bool:
+    """Whether an edit changes one character or exchanges two, and leaves no part of a tag in the text around it."""
+    old, new = document[edit.start : edit.end].decode("utf-8"), edit.text.decode("utf-8")
+    if len(old) > 2 or len(new) > 2 or (len(old) == 2) != (len(new) == 2) or (len(old) == 2 and old != new[::-1]):
+        return False
+    after = applied(document, [edit])
+    start = after.rfind(b"<", 0, max(after.rfind(b"<", 0, edit.start), 0))
+    end = after.find(b"<", after.find(b"<", edit.start + len(edit.text)) + 1)
+    stretch = after[max(start, 0) : end if end >= 0 else len(after)]
+    return not any(sign in WELL_FORMED.sub(b"", stretch) for sign in NOT_IN_TEXT)
+
+
+def told(document: bytes, edit: Edit, places: Places) -> str:
+    """A candidate in words."""
+    place = places.place(edit.start)
+    old, new = repr(document[edit.start : edit.end].decode("utf-8", "replace")), repr(edit.text.decode("utf-8"))
+    what = f"without {old}" if not edit.text else f"{new} more" if edit.start == edit.end else f"{new} for {old}"
+    return f"{place.line}:{place.column}: {what}"
