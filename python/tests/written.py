@@ -1,7 +1,8 @@
 """Clean documents as other annotators and tools write them, in styles of their own; each is made from a `Random` alone.
 
 `spread` has its tags over several lines, single quotes, CRLF, comments, and identifiers such as `E12`. `dense` has no line breaks,
-and marks sentences, names, and numbers. `inline` has each instance after its event, and identifiers such as `a.b-3`. `plain` has little but text.
+and marks sentences, names, and numbers. `inline` has each instance after its event, and identifiers such as `a.b-3`. `plain` has little
+but text.
 """
 
 from __future__ import annotations
