@@ -1,9 +1,8 @@
 """Does what is printed of a document, word for word and without a thought, and says what came of it.
 
-A slip is made in a clean document, and what is printed first of it is done, again and again: by what `fix` does, without
-`--unsafe` or with it, or if `fix` leaves it by the words of the sentence. At each step the document has to be the clean one, or something has still to be reported of it.
-
-`python3 python/tests/advice.py 5000 7` makes so many slips, with the seed 7, and prints what came of each group of kinds and of each kind.
+A slip is made in a clean document, and what is printed first of it is done, again and again: by what `fix` does, without `--unsafe` or with
+it, or if `fix` leaves it by the words of the sentence. At each step the document has to be the clean one, or something has still to be
+reported of it.
 """
 
 from __future__ import annotations

@@ -191,4 +191,5 @@ def main(count: int, seed: int, how: str = "") -> int:
 
 if __name__ == "__main__":
     numbers = [int(one) for one in sys.argv[1:] if not one.startswith("--")]
-    sys.exit(main(numbers[0], *numbers[1:2] or [1], *(one for one in sys.argv[1:] if one.startswith("--"))))
+    options = [one for one in sys.argv[1:] if one.startswith("--")]
+    sys.exit(main(numbers[0], numbers[1] if numbers[1:] else 1, options[0] if options else ""))

@@ -269,12 +269,12 @@ class Explanations(CorpusTest):
         rows = [
             (
                 b"<TimeML>\xe9</TimeML>",
-                "1:9 the byte E9 (é in Latin-1) is not UTF-8: the file looks like Latin-1; `tml-corpus fix` turns it into UTF-8",
+                "1:9 the byte E9 (é in Latin-1) is not UTF-8: the file looks like Latin-1; `tml-corpus fix --unsafe` turns it into UTF-8",
             ),
             (
                 b"<TimeML>\x93\xe9\x94</TimeML>",
-                "1:9 3 bytes, the first one 93 (\u201c in Windows-1252), are not UTF-8: the file looks like Windows-1252; `tml-corpus fix` "
-                "turns it into UTF-8",
+                "1:9 3 bytes, the first one 93 (\u201c in Windows-1252), are not UTF-8: the file looks like Windows-1252; "
+                "`tml-corpus fix --unsafe` turns it into UTF-8",
             ),
             (
                 b'<?xml version="1.0" encoding="iso-8859-15"?><TimeML>\xa4</TimeML>',

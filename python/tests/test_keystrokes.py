@@ -1,4 +1,4 @@
-"""One wrong keystroke: what `tml-corpus fix` writes of it is the original, or nothing is written, and the original is among the candidates."""
+"""One wrong keystroke: `tml-corpus fix` writes the original, or it writes nothing, and the original is among the candidates."""
 
 import time
 import unittest

@@ -89,7 +89,10 @@ class Sentences(CorpusTest):
         found = fixes(state, first.mark.start.offset, first.mark.end.offset)
         offered = [done(state, one) for one in found]
         wanted = [step.after for step in state.steps]
-        if not any(one["isPreferred"] for one in found) and not re.search("add <MAKEINSTANCE", first.text):
+        has_one_cure = any(about.edits for _, about, _ in state.explained) or any(
+            one.edits for one in state.suspects if one.text == first.text
+        )
+        if not state.steps and not has_one_cure and not re.search("add <MAKEINSTANCE", first.text):
             for pattern, do in DOING:
                 said = re.search(pattern, first.text)
                 if said is not None:

@@ -1,7 +1,8 @@
 """Clean documents as other annotators and tools write them, in styles of their own; each is made from a `Random` alone.
 
-`spread` has its tags over several lines, single quotes, CRLF, comments, and identifiers such as `E12`. `dense` has no line breaks, and marks
-sentences, names, and numbers. `inline` has each instance after its event, and identifiers such as `a.b-3`. `plain` has little but text.
+`spread` has its tags over several lines, single quotes, CRLF, comments, and identifiers such as `E12`. `dense` has no line breaks,
+and marks sentences, names, and numbers. `inline` has each instance after its event, and identifiers such as `a.b-3`. `plain` has little
+but text.
 """
 
 from __future__ import annotations
@@ -14,8 +15,8 @@ from stories import Story
 
 VERBS = ("denied", "grew", "will meet", "began", "expects", "collapsed", "is", "fire", "ended", "talks", "hit", "agreed", "war", "visit")
 WORDS = (
-    "Mr. Abe", "officials", "in Rome", "the plan", "a deal", "he", "U.S. troops", "it", "of the I.R.A.", "3 men", "(again)", "&quot;no&quot;",
-    "at large,", "who", "Zürich", "oil &amp; gas", "30%", "that", "--", "its 747s",
+    "Mr. Abe", "officials", "in Rome", "the plan", "a deal", "he", "U.S. troops", "it", "of the I.R.A.", "3 men", "(again)",
+    "&quot;no&quot;", "at large,", "who", "Zürich", "oil &amp; gas", "30%", "that", "--", "its 747s",
 )  # fmt: skip
 CLASSES = ("OCCURRENCE", "PERCEPTION", "REPORTING", "ASPECTUAL", "STATE", "I_STATE", "I_ACTION")
 RELATIONS = ("BEFORE", "AFTER", "INCLUDES", "IS_INCLUDED", "SIMULTANEOUS", "IBEFORE", "IDENTITY", "BEGUN_BY", "ENDS", "DURING_INV")

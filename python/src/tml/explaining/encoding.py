@@ -40,7 +40,8 @@ def not_utf8(source: Source, offset: int) -> Explanation:
         called = NAMES.get(guess, guess)
         letter = f" ({letter_at(document, offset, guess)} in {called})" if guess != "utf-16" else ""
         first = f"the byte {byte:02X}{letter} is" if wrong == 1 or not letter else f"{wrong} bytes, the first one {byte:02X}{letter}, are"
-        found.text = f"{first} not UTF-8: the file looks like {called}; `tml-corpus fix` turns it into UTF-8"
+        command = "tml-corpus fix" if is_declared(document, guess) else "tml-corpus fix --unsafe"
+        found.text = f"{first} not UTF-8: the file looks like {called}; `{command}` turns it into UTF-8"
     elif ends_within_character(document, offset):
         found.text = "the file ends within a character, so its end was lost"
     else:

@@ -161,7 +161,7 @@ class Choice:
         return Counter(self.unlikely(origin, lambda tag: True))
 
     def own_blemishes(self, origin: Origin) -> Counter[str]:
-        """What is unlikely about the changed place itself; a letter of the text is always in doubt, and a sign that it may have had."""
+        """What is unlikely about the changed place itself; a letter of the text is in doubt, and so is a sign that it may have had."""
         key, part = origin.keystroke, self.part(origin)
         start = key.start - self.low
         end = start + len(key.text)

@@ -17,6 +17,9 @@ from .search import Origin
 NOT_IN_TEXT = (b">", b'="', b"='")
 """What a text hardly has, and a tag has that became text."""
 
+MOST_BYTES = 5 << 16
+"""In a longer document no keystroke is searched for: that would take too long."""
+
 WELL_FORMED = re.compile(rb"<!--.*?-->|<[^<>]*>", re.DOTALL)
 
 
@@ -30,7 +33,7 @@ class Found:
 
 def found_origin(program: Program, document: bytes, fault: Fault) -> Found:
     """What one keystroke explains of the first fault of a document."""
-    if fault.number == NOT_UTF8:
+    if fault.number == NOT_UTF8 or len(document) > MOST_BYTES:
         return Found()
     text = document.decode("utf-8")
     draft = Draft(text)
