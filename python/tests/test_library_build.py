@@ -18,7 +18,9 @@ MISSING = [name for name in ("cc", "ld", "objcopy", "ar", "rt") if shutil.which(
 
 class Needed(unittest.TestCase):
     def test_what_is_missing(self) -> None:
-        done = subprocess.run([*BARE, BUILD], env={"PATH": ""}, capture_output=True, text=True, check=False, timeout=60)
+        done = subprocess.run(
+            [*BARE, BUILD], env={"PATH": "", "PYTHONDONTWRITEBYTECODE": "1"}, capture_output=True, text=True, check=False, timeout=60
+        )
         self.assertEqual((done.returncode, done.stdout, done.stderr), (1, "", "build: not installed: rt, cc, ld, objcopy, ar\n"))
 
     def test_help_has_an_example(self) -> None:
