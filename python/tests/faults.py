@@ -1,4 +1,4 @@
-"""Faults of the code where they are wanted: in the work on the file N the N-th function that is called raises something."""
+"""Faults of the code, on purpose: in the work on the file N the N-th function that is called raises something."""
 
 import builtins
 import errno
@@ -69,7 +69,7 @@ class Raising:
 
     def __call__(self, frame: FrameType, event: str, _: Any) -> None:
         """Is called with each function."""
-        # What a generator raises where it is let go of is lost, whoever calls it.
+        # What a generator raises when it is let go of is lost, whoever calls it.
         path, is_generator = frame.f_code.co_filename, frame.f_code.co_flags & inspect.CO_GENERATOR
         if event == "call" and path.startswith(SOURCES) and path != attempts.__file__ and not is_generator:
             self.left -= 1

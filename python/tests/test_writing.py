@@ -200,7 +200,7 @@ class Stopped(CorpusTest):
         self.ended(leaves)
 
     def ended(self, kills: bool) -> None:
-        """Waits until what the browser has begun has ended, or ends it, since nothing else does where the program was killed."""
+        """Waits until what the browser has begun has ended, or ends it, since nothing else does if the program was killed."""
         asked = [int(number) for number in self.read_text("asked").split()]
         for number in asked if kills else ():
             with contextlib.suppress(ProcessLookupError):

@@ -44,7 +44,7 @@ INTERVAL = 1.0
 
 @dataclass
 class Check:
-    """One run of the prover: of which crate, for its proof, its tests, an edit or a program, and what it has used so far."""
+    """One run of the prover: its crate, whether it is for the proof, the tests, an edit or a program, and what it has used."""
 
     crate: str
     kind: str

@@ -96,7 +96,7 @@ class Reals:
         return bool(solver.check() == self.z3.sat)
 
     def can_be_with_all(self, more: Any) -> bool:
-        """Whether some numbers make the dates, all links and more true. One solver is asked, so that it is told the links once."""
+        """Whether some numbers make the dates, all links and more true. One solver answers, so it gets the links once."""
         if self.solver is None:
             self.solver = self.z3.Solver()
             self.solver.add(*self.given, *map(self.says, self.links))

@@ -20,7 +20,7 @@ DIGEST = re.compile("_[0-9a-f]{16}(?=/)")
 
 
 def attempted(work: Callable[[Given], Result], given: Given, failed: Callable[[Given, str], Result]) -> Result:
-    """What some work makes of a file; or where that raises anything, what `failed` makes of the file and of the cause."""
+    """What some work makes of a file; or, if that raises anything, what `failed` makes of the file and of the cause."""
     try:
         return work(given)
     except Exception as error:

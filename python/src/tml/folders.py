@@ -73,7 +73,7 @@ def folder(paths: Paths, question: Callable[[str], Any] = read, jobs: int | None
     takes more; by default it is `read`. It is asked in as many processes at once as there are processors, or as `jobs` says; with `jobs=1`
     in this process, and then it may be any function.
 
-    Where a file cannot be read, or takes its process along, or the question raises anything about it, the answer is a `NotAnswered` with
+    If a file cannot be read, or takes its process along, or the question raises anything about it, the answer is a `NotAnswered` with
     the cause, and the others go on.
     """
     if jobs is not None and jobs < 1:

@@ -65,7 +65,7 @@ class Workers:
         return child
 
     def ask(self, path: str) -> Any:
-        """The answer of the process of this thread; `Lost` where the question raised something, or the process ended."""
+        """The answer of the process of this thread; `Lost` if the question raised something, or the process ended."""
         child = getattr(self.own, "child", None)
         try:
             if child is None:

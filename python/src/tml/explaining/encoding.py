@@ -80,7 +80,7 @@ def guessed(document: bytes, text: str) -> str | None:
 
 
 def decoding(document: bytes, name: str) -> str | None:
-    """The name that Python has for an encoding, where that is another one than UTF-8 and the document can be of it."""
+    """The name that Python has for an encoding, if that is another one than UTF-8 and the document can be of it."""
     with suppress(LookupError, ValueError):
         called = codecs.lookup(name).name
         if called not in ("utf-8", "ascii") and document.decode(called).encode(called) == document:

@@ -45,7 +45,7 @@ def written(thing: object) -> bytes:
 
 
 def packed(results: Sequence[Any], given: Sequence[Any], failed: Callable[[Any, str], Any]) -> bytes:
-    """The bytes of the results of some work. Where one of them has none, that is a failure of what it was made of."""
+    """The bytes of the results of some work. If one of them has none, that is a failure of what it was made of."""
     try:
         return written(results)
     except Exception:

@@ -108,8 +108,8 @@ def in_order(
 ) -> Iterator[Result]:
     """The results of the items in their order. After an interruption no item is begun; what was begun is still reported.
 
-    The result of an item at which the work raises anything is made by `failed`, of the item and the cause. Where a process is ended from
-    outside, as where it is out of memory, the items that it had are begun again one at a time, with nothing beside them. One that ends its
+    The result of an item at which the work raises anything is made by `failed`, of the item and the cause. If a process is ended from
+    outside, as when it is out of memory, the items that it had are begun again one at a time, with nothing beside them. One that ends its
     process again has failed too.
     """
     groups: Groups[Result] = Groups(len(items), workers)

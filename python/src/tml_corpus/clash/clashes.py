@@ -45,7 +45,7 @@ def is_timeline(reply: Reply) -> bool:
 
 
 def verify_clash(program: Program, document: bytes, clash: Clash, kept: str | None = None) -> None:
-    """Has `tml verify` judge a clash. Its evidence is kept where a name of a file is given for it."""
+    """Has `tml verify` judge a clash. Its evidence is kept if a name of a file is given for it."""
     judged = program.ask(["verify", "-"], document, clash.evidence)
     if judged.status != ACCEPTED or judged.text != b"verified clash %s\n" % b" ".join(b"%d" % link for link in clash.links):
         said = judged.text.decode("utf-8", "replace").strip()

@@ -81,7 +81,7 @@ def not_judged(path: str, problem: str) -> Unfit:
 
 
 def status_of(show: Callable[[str], Unfit | int], path: str, apart: TextIO) -> int:
-    """Shows something of one document, and answers the status. Where there is nothing to show it prints what is said of that."""
+    """Shows something of one document, and answers the status. If there is nothing to show it prints what is said of that."""
     done = attempted(show, path, not_judged)
     if isinstance(done, Unfit):
         apart.write(done.text)

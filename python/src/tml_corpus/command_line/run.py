@@ -63,7 +63,7 @@ class Run(NamedTuple):
 def print_each(
     found: Sequence[Found], results: Iterator[Result], report: Callable[[Found, Result], str], failed: Callable[[Found, str], Result]
 ) -> None:
-    """Prints of each file what there is to report, in the order of the files. Where that cannot be said, it prints why."""
+    """Prints of each file what there is to report, in the order of the files. If that cannot be said, it prints why."""
     progress = Progress(len(found), "files")
     try:
         for result, one in zip(results, found, strict=False):

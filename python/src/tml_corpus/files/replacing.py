@@ -1,6 +1,6 @@
 """All files that are written: whole under another name first, so that none is left half written, and nothing beside it.
 
-Where a file is there already the new one has its rights, or it stays as it is.
+If a file is there already the new one has its rights, or it stays as it is.
 """
 
 from __future__ import annotations
@@ -76,9 +76,9 @@ def access_list_of(handle: int) -> bytes | None:
 def replace_file(path: str, content: bytes, before: bytes | None = None, top: str = "") -> None:
     """Writes a file, with the rights of the one that it replaces, if there is one, or else those of the user's umask.
 
-    Where a content `before` is given the file has to be there with it until the last moment. Below `top`, a folder that was searched or
+    If a content `before` is given the file has to be there with it until the last moment. Below `top`, a folder that was searched or
     in which names are chosen here, no link is followed to the file; without it the path was named by the user, and its links are followed.
-    Raises `CannotRun`, and leaves the file as it is, where that or the rights cannot be had.
+    Raises `CannotRun`, and leaves the file as it is, if that or the rights cannot be had.
     """
     target = path if top else os.path.realpath(path)
     try:
@@ -89,7 +89,7 @@ def replace_file(path: str, content: bytes, before: bytes | None = None, top: st
 
 
 def make_folder(path: str) -> None:
-    """Makes a folder, with those above it, where it is not there."""
+    """Makes a folder, with those above it, if it is not there."""
     try:
         os.makedirs(path, exist_ok=True)
     except (OSError, ValueError) as error:

@@ -46,7 +46,7 @@ FOLDERS: set[str] = set()
 
 @contextmanager
 def folder_for_a_while() -> Iterator[str]:
-    """A folder of this user alone for files that are needed for a while. It goes with them, also where a signal ends this process."""
+    """A folder of this user alone for files that are needed for a while. It goes with them, also when a signal ends this process."""
     import tempfile
 
     folder = os.path.join(tempfile.gettempdir(), f"tml-{os.urandom(8).hex()}")

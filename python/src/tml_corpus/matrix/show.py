@@ -43,7 +43,7 @@ def show_matrix(program: Program, path: str, form: str, touching: bool, stop: In
 
 
 def print_matrix(program: Program, path: str, form: str, touching: bool, apart: TextIO, stop: Interruption) -> Unfit | int:
-    """The same, where some timeline fits the document."""
+    """The same, if some timeline fits the document."""
     found = worded_matrix(program, path, "shown", touching)
     if isinstance(found, Unfit):
         return found

@@ -107,7 +107,7 @@ def show_open(
 def print_open(
     program: Program, file: Found, bounds: Bounds, touching: bool, in_order: InOrder[Any], stop: Interruption, before: str
 ) -> Unfit | int:
-    """The same, where some timeline fits the document."""
+    """The same, if some timeline fits the document."""
     found = worded_matrix(program, file.place(), "looked at", touching)
     if isinstance(found, Unfit):
         return found

@@ -21,7 +21,7 @@ def show_seconds(program: Program, path: str, form: str, touching: bool) -> int:
 
 
 def print_seconds(program: Program, path: str, form: str, touching: bool, apart: TextIO) -> Unfit | int:
-    """The same, where there is a placing or something that cannot be met."""
+    """The same, if there is a placing or something that cannot be met."""
     found = document_placed(program, path, read_document(path), touching)
     if isinstance(found, Unfit):
         return found

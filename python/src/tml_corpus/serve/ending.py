@@ -1,4 +1,4 @@
-"""How a server ends though `tml` does not: what runs then is ended too, where the client says that it goes."""
+"""How a server ends though `tml` does not: what runs then is ended too, when the client says that it goes."""
 
 from __future__ import annotations
 
