@@ -71,7 +71,7 @@ class Hashes:
         return self.named(reference)
 
     def end(self, first: Reference) -> None:
-        """Makes the hashes of the definitions that speak of each other, of which this is the first that was visited."""
+        """Makes the hashes of a cycle of definitions, from the one that the search visited first."""
         at = self.waiting.index(first)
         cycle, self.waiting = sorted(self.waiting[at:], key=self.place), self.waiting[:at]
         places = {one: f"@{place}" for place, one in enumerate(cycle)}

@@ -97,7 +97,7 @@ class Meanings:
         return found
 
     def place(self, reference: Reference) -> tuple[str, str, int, str]:
-        """The crate, the file and the number there of a definition, by which those of a cycle are told apart whatever their names are."""
+        """The crate, the file and the number of a definition: they order the definitions of a cycle, whatever their names are."""
         if reference.file == SRC:
             return reference.crate, reference.file, 0, reference.name
         return (

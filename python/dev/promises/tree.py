@@ -22,7 +22,7 @@ Read = TypeVar("Read")
 
 
 def read_with(read: Callable[[str, str], Read], path: Path) -> Read:
-    """What a file has. If it ends where more has to follow, that is said of it."""
+    """The contents of a file. A file that ends too early is `Unreadable`."""
     try:
         return read(str(path), path.read_text("utf-8"))
     except LookupError as error:

@@ -1,4 +1,4 @@
-"""The work on one file of many: all of it goes through here, so that what goes wrong with the file is said of it and ends nothing else."""
+"""The work on one file of many. All of it goes through here, so that an error in it is reported for this file and ends nothing else."""
 
 from __future__ import annotations
 
@@ -13,7 +13,7 @@ Given = TypeVar("Given")
 Result = TypeVar("Result")
 
 NO_MEMORY = "no memory to take the document apart"
-"""What is said of a document for which there is too little memory."""
+"""The cause to report if a document needs more memory than there is."""
 
 DIGEST = re.compile("_[0-9a-f]{16}(?=/)")
 """What the name of a package has on a worker of a cluster besides its own name."""
