@@ -25,7 +25,7 @@ from tml.running import STARTS, CannotRun, end_all
 
 from ..command_line.statuses import ENDED
 from ..files.finding import reason
-from ..files.writing import WRITING
+from ..files.writing import FORKED, WRITING
 from .room import Room, SharedLock
 
 Item = TypeVar("Item")
@@ -288,10 +288,21 @@ class Crew(Generic[Item, Result]):
             self.watched, self.held = os.pipe()
         except OSError as error:
             raise cannot_fork(error) from None
+        FORKED.add(self.end_now)
         return self
+
+    def end_now(self) -> None:
+        """Ends all processes, before they are through. If one does not end soon nobody waits for it."""
+        os.close(self.held)
+        late = time.monotonic() + PATIENCE
+        for worker in self.workers():
+            with suppress(ChildProcessError):
+                while os.waitpid(worker.process, os.WNOHANG) == (0, 0) and time.monotonic() < late:
+                    time.sleep(0.001)
 
     def __exit__(self, *error: object) -> None:
         """Ends all processes, once they are through with what they are at."""
+        FORKED.discard(self.end_now)
         for worker in self.starting.values():
             worker.end()
         workers = self.workers()

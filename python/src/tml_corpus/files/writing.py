@@ -6,14 +6,14 @@ import os
 import signal
 import threading
 import time
-from collections.abc import Iterator
+from collections.abc import Callable, Iterator
 from contextlib import contextmanager
 from functools import partial
 
 from tml.running import STARTS, end_all
 
-WRITING = threading.Lock()
-"""Is held while a file lies under its other name. A thread that ends this process takes it first."""
+WRITING = threading.RLock()
+"""Is held while a file has its other name. What ends this process takes it first."""
 
 ENDING = (signal.SIGINT, signal.SIGTERM, signal.SIGHUP)
 """The signals that end a program and can wait."""
@@ -60,6 +60,10 @@ def folder_for_a_while() -> Iterator[str]:
             FOLDERS.discard(folder)
 
 
+FORKED: set[Callable[[], object]] = set()
+"""What ends processes that this one has forked, and waits for them: a file that one of them is at is written whole before that."""
+
+
 def take_away(folder: str) -> None:
     """Takes a folder away with all that is in it. A process that was just ended may for a moment still write there."""
     import shutil
@@ -80,7 +84,10 @@ def end_by_signals() -> None:
 def end_now(number: int) -> None:
     """Ends what runs, takes away what is there for a while, and ends this process by this signal."""
     end_all()
-    for folder in FOLDERS:
-        take_away(folder)
-    signal.signal(number, signal.SIG_DFL)
-    os.kill(os.getpid(), number)
+    for end in list(FORKED):
+        end()
+    with WRITING:
+        for folder in FOLDERS:
+            take_away(folder)
+        signal.signal(number, signal.SIG_DFL)
+        os.kill(os.getpid(), number)
