@@ -1,13 +1,13 @@
 """Does what is printed of a document, word for word and without a thought, and says what came of it.
 
-A slip is made in a clean document, and what is printed first of it is done, again and again: by what `fix` does, or where `fix` leaves it
-by the words of the sentence. At each step the document has to be the clean one, or something has still to be reported of it.
-
-`python3 python/tests/advice.py 5000 7` makes so many slips, with the seed 7, and prints what came of each group of kinds and of each kind.
+A slip is made in a clean document, and what is printed first of it is done, again and again: by what `fix` does, without `--unsafe` or with
+it, or if `fix` leaves it by the words of the sentence. At each step the document has to be the clean one, or something has still to be
+reported of it.
 """
 
 from __future__ import annotations
 
+import os
 import re
 import sys
 from collections import Counter
@@ -17,11 +17,12 @@ from functools import lru_cache
 from itertools import cycle, islice
 from random import Random
 
-from corpus import of_type
+from corpus import LIBRARY, of_type
 from reference import Outcome as Answered
 from reference import expected
 from slips import GROUPS, SLIPS, Slip
 from stories import Story
+from tml_corpus.asking.libraries import AtPath
 from tml_corpus.asking.program import File, Program, Reply
 from tml_corpus.check.fix import mended
 from tml_corpus.check.judgement import Judgement
@@ -46,12 +47,15 @@ class Outcome(Enum):
 
 
 class Reference(Program):
-    """`tml` as `python/dev/reference` has it, in this process."""
+    """`tml` in this process: its library if that was built, or else `python/dev/reference`."""
 
     def __init__(self) -> None:
-        super().__init__("reference")
+        super().__init__("reference", AtPath(LIBRARY) if os.path.isfile(LIBRARY) else None)
+        self.load()
 
     def ask(self, words: list[str], document: File, other: File | None = None) -> Reply:
+        if self.loaded is not None:
+            return super().ask(words, document, other)
         assert isinstance(document, bytes)
         return answer(words[0], document)
 
@@ -122,9 +126,10 @@ def done(program: Program, document: bytes, judgement: Judgement) -> bytes | Non
     """The document after what is printed first of it was done; None where a person has to see."""
     if judgement.faults:
         first: PlacedFault | PlacedWarning = judgement.faults[0]
-        fixed = mended(program, document)
-        if fixed.after != document:
-            return fixed.after
+        for unsafe in (False, True):
+            fixed = mended(program, document, unsafe)
+            if fixed.after != document:
+                return fixed.after
     else:
         first = judgement.warnings[0]
     for pattern, do in DOING:

@@ -13,7 +13,10 @@ from typing import TypeVar
 from forked import run_forked
 from installing import INSTALLED
 from processes import BARE, with_own_bytecode
+from tml.finding import BUILT_LIBRARY
 from tml.statuses import DOCUMENT_LIMIT
+from tml_corpus.asking.libraries import AtPath
+from tml_corpus.asking.program import Program
 
 Value = TypeVar("Value")
 
@@ -23,6 +26,7 @@ TOOLS, SOURCES = os.path.join(INSTALLED or TOP, "tools"), INSTALLED or os.path.j
 
 COMPANION = os.path.join(TOOLS, "tml-corpus")
 TML = os.environ.get("TML") or os.path.join(TOP, "crates", "tml", "out", "tml")
+LIBRARY = os.path.abspath(os.environ.get("TML_LIBRARY") or BUILT_LIBRARY)
 EVENT = '<EVENT eid="e1" class="STATE">x</EVENT>'
 TOO_LONG = b" " * (DOCUMENT_LIMIT + 1)
 """A document with one byte more than `tml` takes."""
@@ -46,7 +50,15 @@ def forms() -> list[str]:
     return done.stdout.splitlines()
 
 
+def by_library() -> Program:
+    """The program, by its library, which is loaded into this process."""
+    program = Program(TML, AtPath(LIBRARY, is_named=True))
+    program.load()
+    return program
+
+
 needs_root = unittest.skipUnless(os.geteuid() == 0, "not run as root: only root can make files of other users, and work as one of them")
+needs_library = unittest.skipUnless(os.path.isfile(LIBRARY), f"no library {LIBRARY}: name one by TML_LIBRARY=")
 needs_matrix = unittest.skipUnless("tml matrix DOC" in forms(), f"no program {TML} that has the commands possible and matrix")
 needs_seconds = unittest.skipUnless("tml seconds DOC" in forms(), f"no program {TML} that has the commands seconds and confirm")
 needs_score = unittest.skipUnless("tml score DOC KEY" in forms(), f"no program {TML} that has the commands reduce and score")

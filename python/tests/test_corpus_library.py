@@ -14,16 +14,14 @@ import zipfile
 from collections.abc import Mapping, Sequence
 from pathlib import Path
 
-from corpus import CLASH, EVENT, INSTANCE, SOURCES, TESTS, TML, TOO_LONG, TOOLS, TOP, CorpusTest, document, match_in
+from corpus import CLASH, EVENT, INSTANCE, LIBRARY, SOURCES, TESTS, TML, TOO_LONG, TOOLS, TOP, CorpusTest, document, match_in, needs_library
 from daemons import ClusterTest
 from forked import run_forked
 from installing import INSTALLED
 from processes import BARE, PATIENCE, WITH_PACKAGES, children_of, interrupt, is_running, until, with_own_bytecode
-from tml import finding
 from tml_corpus.asking.archive import Sent, archive
 from tml_corpus.asking.libraries import AtPath, Loadable, library_of
 
-LIBRARY = os.path.abspath(os.environ.get("TML_LIBRARY") or finding.BUILT_LIBRARY)
 COMPANION = [*BARE, os.path.join(TOOLS, "tml-corpus")]
 STAND_IN = os.path.join(TESTS, "library_stand_in.c")
 FAULTY = document("<EVENT/>")
@@ -36,7 +34,6 @@ SUSPECT = '<TIMEX3 tid="a" type="DATE" value="1998-1-7">x</TIMEX3><SIGNAL sid="s
 Streams = tuple[int, bytes, bytes]
 """The status and both streams of a program."""
 
-needs_library = unittest.skipUnless(os.path.isfile(LIBRARY), f"no library {LIBRARY}: name one by TML_LIBRARY=")
 needs_cc = unittest.skipUnless(shutil.which("cc"), "no program cc")
 
 
@@ -137,7 +134,7 @@ class SameAnswers(LibraryTest):
     def test_other_commands(self) -> None:
         self.files()
         self.files("e")
-        self.assertIn(b"can be mended", self.same("fix", "d")[1])
+        self.assertIn(b"can be fixed", self.same("fix", "d")[1])
         self.assertIn(b"unknown, first at", self.same("tags", "d")[1])
         self.assertIn(b"precision", self.same("agree", "--links", "d/samples", "e/samples")[1])
         self.same("agree", "--touching", "--format", "json", "d", "e")

@@ -8,7 +8,7 @@ from advice import Outcome, Reference, judged, tally
 from slips import SLIPS
 from stories import Story
 
-OF_EACH = 4
+OF_EACH = 2
 """How many slips of each kind are made; `python3 python/tests/advice.py 5000` makes more."""
 
 NOT_SEEN = {
@@ -24,7 +24,7 @@ NOT_SEEN = {
 ALWAYS_CURED = {
     "/> lost", "closing quote lost", "name of a tag in small letters", "letter for a digit in a reference", "line pasted twice",
     "tag pasted into itself", "second document", "O for 0 in a date", "quarter before its year", "hour of one digit", "zone by its name",
-    "invisible letter in an identifier", "invisible letter in a value", "byte order mark twice", "Latin-1", "UTF-16",
+    "invisible letter in an identifier", "invisible letter in a value", "byte order mark twice", "UTF-16",
     "end tag of another kind",
 }  # fmt: skip
 """Kinds of slips of which each is cured in one step."""

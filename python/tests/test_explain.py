@@ -10,7 +10,7 @@ from collections.abc import Sequence
 from random import Random
 
 from corpus import EVENT, INSTANCE, CorpusTest, document, needed
-from tml.explaining.encoding import converted, not_utf8
+from tml.explaining.encoding import converted, declared_encoding, not_utf8
 from tml.statuses import MANY_BYTES, RELATIONS
 from tml.tags.source import Source
 
@@ -183,7 +183,10 @@ class Explanations(CorpusTest):
             [
                 ("<TimeML>\n<P>\n<EVENT>x</P></TimeML>", "3:1 <EVENT> is never closed: write </EVENT> right after its words"),
                 ("<TimeML><P><S>x</P></S></TimeML>", "1:12 <S> opened here crosses </P> at 1:16: exchange </P> and the </S> after it"),
-                ("<TimeML><P>x</p></TimeML>", "1:13 </p> does not close <P>, opened at 1:9: write </P>"),
+                (
+                    "<TimeML><P>x</p></TimeML>",
+                    "1:13 </p> does not close <P>, opened at 1:9: write </P>; or one wrong keystroke: write 'p' for 'P' at 1:10",
+                ),
                 ("<TimeML><P>x</S></TimeML>", "1:13 </S> does not close <P>, opened at 1:9: write </P>"),
                 ("</P>", "1:1 </P> closes nothing: its start tag was lost: write <P> before what it holds"),
                 (
@@ -269,12 +272,12 @@ class Explanations(CorpusTest):
         rows = [
             (
                 b"<TimeML>\xe9</TimeML>",
-                "1:9 the byte E9 (é in Latin-1) is not UTF-8: the file looks like Latin-1; `tml-corpus fix` turns it into UTF-8",
+                "1:9 the byte E9 is not UTF-8, and the file declares no encoding: `tml-corpus fix` shows its text in those that make sense",
             ),
             (
                 b"<TimeML>\x93\xe9\x94</TimeML>",
-                "1:9 3 bytes, the first one 93 (\u201c in Windows-1252), are not UTF-8: the file looks like Windows-1252; `tml-corpus fix` "
-                "turns it into UTF-8",
+                "1:9 3 bytes, the first one 93, are not UTF-8, and the file declares no encoding: `tml-corpus fix` shows its text in "
+                "those that make sense",
             ),
             (
                 b'<?xml version="1.0" encoding="iso-8859-15"?><TimeML>\xa4</TimeML>',
@@ -315,7 +318,7 @@ class Explanations(CorpusTest):
                     f" ({text[0]} in {codecs.lookup(name).name}), are not UTF-8: the file looks like {codecs.lookup(name).name}; ",
                     found.text,
                 )
-                [edit] = converted(document)
+                [edit] = converted(document, declared_encoding(document))
                 self.assertEqual(edit.text.decode(), content.replace(name, "UTF-8"))
 
     def test_no_declared_encoding_is_too_much(self) -> None:
@@ -328,13 +331,13 @@ class Explanations(CorpusTest):
                     document.decode()
                 with self.subTest(name, tail=tail):
                     self.assertNotEqual(not_utf8(Source(document, None), raised.exception.start).text, "")
-                    self.assertLessEqual(len(list(converted(document))), 1)
+                    self.assertLessEqual(len(list(converted(document, declared_encoding(document)))), 1)
 
     def test_a_slip_in_utf8_is_not_a_declared_encoding(self) -> None:
         for name, text in (("GB18030", "中文文件"), ("EUC-KR", "가나다라"), ("Shift_JIS", "日本語")):
             document = f'<?xml version="1.0" encoding="{name}"?><TimeML>{text}'.encode() + b"\xe9</TimeML>"
             with self.subTest(name):
-                self.assertEqual(list(converted(document)), [])
+                self.assertEqual(list(converted(document, declared_encoding(document))), [])
 
     def test_general_sentences_where_no_others_are_wanted(self) -> None:
         self.write("d.xml", document("<SIGNAL/>"))

@@ -20,8 +20,8 @@ from tml_corpus.timeline.timeline import write_picture
 STRANGER = 65534
 """The user and the group `nobody`: of neither are there files or rights elsewhere."""
 
-OLD, NEW = document("&").encode(), document("&amp;").encode()
-SLIP = document("caf\xe9 &").encode("latin-1")
+OLD, NEW = document("&eacute;").encode(), document("é").encode()
+SLIP = document("caf\xe9 &eacute;").encode("latin-1")
 ACCESS_LIST = "system.posix_acl_access"
 KEPT = "its owner, group, access list and permissions cannot be kept"
 
@@ -217,7 +217,7 @@ class Links(ReplacingTest):
         os.symlink("../out/d.xml", self.path("c/l.xml"))
         os.symlink("../out/settings", self.path("c/s.xml"))
         os.symlink("../out", self.path("c/f"))
-        said = "not mended: is a symbolic link found in a folder: name it to mend what it leads to"
+        said = "not fixed: is a symbolic link found in a folder: name it to fix what it leads to"
         for words in (("--write", "c"), ("--diff", "c"), ("--write", "c", "c/e")):
             status, lines, _ = self.run_it("fix", *words)
             self.assertEqual((status, lines[:2]), (2, [f"c/l.xml: {said}", f"c/s.xml: {said}"]))
@@ -240,7 +240,7 @@ class Links(ReplacingTest):
             with self.subTest(name):
                 status, lines, _ = self.run_it("fix", "--write", "--glob", os.path.basename(name), "c", tml=self.path("changing"))
                 self.assertEqual((self.content("out/d.xml"), os.listdir(self.path("out"))), (OLD, ["d.xml"]))
-                self.assertEqual((status, lines[0].split(" cannot be written: ")[0]), (2, f"{name}: not mended: {name}"))
+                self.assertEqual((status, lines[0].split(" cannot be written: ")[0]), (2, f"{name}: not fixed: {name}"))
 
     def test_an_encoding_is_converted_only_below_a_root_of_timeml(self) -> None:
         rows = [
@@ -254,7 +254,7 @@ class Links(ReplacingTest):
         ]
         for number, (content, _) in enumerate(rows):
             self.write(f"c/{number}.xml", content)
-        self.run_it("fix", "--write", "c")
+        self.run_it("fix", "--write", "--from", "latin-1", "c")
         for number, (content, is_converted) in enumerate(rows):
             with self.subTest(content):
                 self.assertEqual(self.content(f"c/{number}.xml"), content.decode("latin-1").encode() if is_converted else content)

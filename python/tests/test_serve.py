@@ -194,28 +194,28 @@ class Actions(ServeTest):
     def test_a_cure_is_applied_and_the_fault_is_gone(self) -> None:
         client = self.client()
         rows = [
-            (EVENT + INSTANCE + "a & b", "&", "Mend unescaped & (1 change)"),
-            (EVENT.replace("STATE", "State"), "State", "Mend values (1 change)"),
-            (EVENT.replace("EVENT", "event"), "<event", "Mend names of tags (2 changes)"),
-            (EVENT.replace('"e1"', "\u201ce1\u201d"), "<EVENT", "Mend curly quotes (2 changes)"),
+            (EVENT + INSTANCE + "a & b", "&", "Fix unescaped & (1 change)"),
+            (EVENT.replace("STATE", "State"), "State", "Fix values in other letters (1 change)"),
+            (EVENT.replace("EVENT", "event"), "<event", "Fix tags in other letters (2 changes)"),
+            (EVENT.replace('"e1"', "\u201ce1\u201d"), "<EVENT", "Fix curly quotes (2 changes)"),
         ]
         self.opened(client, document("x"))
         for number, (inner, needle, title) in enumerate(rows):
             with self.subTest(title):
                 [found] = self.changed(client, document(inner), 2 * number + 2)
                 self.assertEqual(found["severity"], 1)
-                [action] = self.actions(client, needle)
-                self.assertEqual((action["title"], action["kind"]), (title, "quickfix"))
+                [action] = [one for one in self.actions(client, needle) if one["title"] == title]
+                self.assertEqual((action["kind"], action["isPreferred"]), ("quickfix", title != "Fix unescaped & (1 change)"))
                 left = self.changed(client, self.applied(action), 2 * number + 3)
                 self.assertNotIn(1, [one["severity"] for one in left])
                 self.assertEqual(self.actions(client, "<TimeML"), [])
 
     def test_all_cures(self) -> None:
         client = self.client()
-        self.opened(client, document("é & b\n" + EVENT.replace("STATE", "State") + "\nx\n"))
+        self.opened(client, document("é &nbsp; b\n" + EVENT.replace("STATE", "State") + "\nx\n"))
         self.assertEqual(self.actions(client, "&", only=["refactor"]), [])
         [action] = self.actions(client, "<TimeML", only=["source"])
-        self.assertEqual(self.applied(action), document("é &amp; b\n" + EVENT + "\nx\n"))
+        self.assertEqual(self.applied(action), document("é &#160; b\n" + EVENT + "\nx\n"))
 
     def test_dates_that_touch(self) -> None:
         client = self.client()

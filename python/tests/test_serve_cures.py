@@ -41,7 +41,7 @@ EXAMPLES = {
     "{}: delete one of the two": document(EVENT.replace("eid", 'eid="e1" eid')),
     "{} is missing, and {} is not a known attribute of {}; did you mean {}?{}": document(EVENT.replace("eid", "eId")),
     "{}; did you mean {}, the only one without an instance?": document(EVENT + '<MAKEINSTANCE eiid="ei1"/>'),
-    "has a space at its beginning or end: write {}": document(EVENT.replace("e1", " e1")),
+    "has a space at its beginning or end: write {}": document(EVENT.replace("e1", "  e1")),
     "is not an identifier: write {} without #": document(EVENT + INSTANCE.replace("e1", "#e1")),
     ": write {}, since {}": document(EVENT.replace("e1", "e1 e2") + INSTANCE),
     "delete {}, since no tag has this identifier": document(LINKED.replace("relType", 'timeID="t9" relType')),
@@ -88,7 +88,7 @@ EXAMPLES = {
     "the root has to be <{}>: write <{}> before <{}> and </{}> at the end": "<s>b</s>",
     "{}: does a second document begin here? If so, split it off; otherwise delete the tag": document(EVENT + "<TimeML>a"),
     "{}, so it appears twice: delete one of the two{}": "<TimeML>" + document("a"),
-    "<{}> holds {}, and has to be empty: move it before this tag": document(EVENT + INSTANCE.replace("/>", ">a</MAKEINSTANCE>")),
+    "<{}> holds {}, and has to be empty: move it before this tag": document(EVENT + INSTANCE.replace("/>", ">a b</MAKEINSTANCE>")),
     "it is inside that one, so delete one of the two, and leave the words": document(EVENT.replace("x", EVENT)),
     "it is there word for word, so delete it here": document(EVENT + INSTANCE + "\n" + INSTANCE),
     "write {}, the next one, here": document(NUMBERED),
@@ -118,6 +118,8 @@ BECAUSE = {
     "type {} again": "an editor sends characters, and never bytes that are none",
     "type the character again": "an editor sends characters, and never bytes that are none",
     "the file looks like UTF-16: `iconv -f utf-16 -t utf-8` turns it into UTF-8; change the name of the encoding in its first line too":
+        "an editor sends characters, whatever the encoding of the file",
+    "{} not UTF-8: the file looks like {}; `tml-corpus fix` turns it into UTF-8":
         "an editor sends characters, whatever the encoding of the file",
     "{} is not the number of a character: write &# and 1 to 7 digits and ;, or &#x and 1 to 6 digits and ;":
         "which character is meant is not known",

@@ -18,7 +18,6 @@ from stories import Story
 from tml.statuses import RELATIONS
 from tml.tags.profile import CLASS
 from tml_corpus.asking.program import File, Reply
-from tml_corpus.check.fix import steps
 from tml_corpus.check.judgement import Judgement
 from tml_corpus.check.placed import PlacedFault, PlacedWarning
 from tml_corpus.lint.links import TO_EVENT, TO_TIME
@@ -31,7 +30,7 @@ TABLES: Any = test_mistakes
 DOING: Any = advice.DOING
 WITHOUT_A_CURE = (
     "only links can order it", "nothing about its time", "see which words each belongs to", "and this day is a",
-    "is far from the creation time", "February 1999 has 28 days", "the halves of a year",
+    "is far from the creation time", "February 1999 has 28 days", "the halves of a year", "shows its text in those that make sense",
 )  # fmt: skip
 """What sentences say that name nothing which could be written as it stands there."""
 
@@ -86,11 +85,14 @@ class Sentences(CorpusTest):
 
     def check_offered(self, state: OpenDocument, judgement: Judgement) -> bool:
         """Whether something can be done that is printed first of a document; then it is among what is offered."""
-        first, fault = first_of(judgement), state.fault
+        first = first_of(judgement)
         found = fixes(state, first.mark.start.offset, first.mark.end.offset)
         offered = [done(state, one) for one in found]
-        wanted = [step.after for step in steps(state.program, state.text, fault)] if fault is not None else []
-        if not any(one["isPreferred"] for one in found) and not re.search("add <MAKEINSTANCE", first.text):
+        wanted = [step.after for step in state.steps]
+        has_one_cure = any(about.edits for _, about, _ in state.explained) or any(
+            one.edits for one in state.suspects if one.text == first.text
+        )
+        if not state.steps and not has_one_cure and not re.search("add <MAKEINSTANCE", first.text):
             for pattern, do in DOING:
                 said = re.search(pattern, first.text)
                 if said is not None:

@@ -143,7 +143,7 @@ class Stopped(CorpusTest):
         """Files with rights that are not those of new ones, and old contents; their state."""
         linked = EVENT + INSTANCE + '<TIMEX3 tid="t1" type="SET"/><TLINK eventInstanceID="i1" relatedToTime="t1" relType="BEFORE"/>'
         contents = {
-            "good.xml": document(f"<s>{linked}</s>"), "slip.xml": document("&"), "clash.xml": document(CLASH), "d.svg": "old",
+            "good.xml": document(f"<s>{linked}</s>"), "slip.xml": document("&eacute;"), "clash.xml": document(CLASH), "d.svg": "old",
             "known": '["tml-corpus baseline", 1]\n', "in/base-segmentation.tab": TABLES, "out/d1.xml": "old", "d.pdf": "old",
             "asked": "",
             "pages/index.html": "old", "pages/index.js": "old", "pages/report.css": "old", "pages/document.js": "old", "kept/other": "old",

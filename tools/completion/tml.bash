@@ -75,7 +75,7 @@ _tml_corpus() {
             options+=(--explain --no-explain --clashes "${shared[@]}")
             options+=(--lint --ignore --warn --strict --baseline --write-baseline)
             ;;
-        fix) options+=(--diff --write --glob "${asked[@]}") ;;
+        fix) options+=(--diff --write --unsafe --from --glob "${asked[@]}") ;;
         tags) options+=(--glob "${asked[@]}") ;;
         clashes) options+=(--evidence --repair "${shared[@]}") ;;
         timeline) options+=(--output -o --touching --seconds --asserted --text-order --bare --width --rows --no-context --config --tml) ;;

@@ -1,13 +1,15 @@
-"""What has one cure only, mended: in a copy, which `tml` has to accept, or to go further in, before it is shown or written."""
+"""What `fix` writes: in a copy, which `tml` has to accept, or to go further in, before it is shown or written."""
 
 from __future__ import annotations
 
+import re
 from collections.abc import Callable, Iterable, Iterator
-from dataclasses import dataclass, field
+from dataclasses import dataclass, field, replace
+from functools import cache, partial
 from itertools import chain, islice
 
 from tml.explaining import faults
-from tml.explaining.encoding import converted
+from tml.explaining.encoding import converted, declared_encoding, is_undeclared, readings
 from tml.explaining.explain import OF_TAGS, explain
 from tml.explaining.faults import Fault, read_fault
 from tml.explaining.markup import cdata_edits, quote_edits, reference_edits
@@ -15,7 +17,9 @@ from tml.explaining.nesting import end_edits, name_edits
 from tml.places import Places, characters
 from tml.tags.cutting import units_of_whole
 from tml.tags.edits import Edit, applied
+from tml.tags.similar import plain
 from tml.tags.source import Explanation, Source
+from tml.tags.units import Units
 
 from ..asking.program import FAULT, CannotRun, Program
 from ..asking.room import document_of
@@ -23,29 +27,49 @@ from ..files.finding import CannotRead, Found, counted, shown
 from ..files.replacing import replace_file
 from ..lint.kinds import Lint
 from ..lint.warnings import warnings_of
+from ..origins.restored import Found as Explained
+from ..origins.restored import found_origin, told
+from ..origins.search import is_near
 from .formats import located
 from .judgement import problem_of
 
 ROUNDS = 64
-"""How many kinds of slips are mended in one document at most, one after another."""
+"""How many kinds of slips are fixed in one document at most, one after another."""
 
 MOST_EDITS = 100_000
 """A kind of slip that is there more often is left."""
 
+MOST_CANDIDATES = 9
+"""How many candidates are printed for a fault that is left."""
+
 CONTEXT = 3
 """How many lines around a change are shown."""
 
-FOUND_LINK = "is a symbolic link found in a folder: name it to mend what it leads to"
+FOUND_LINK = "is a symbolic link found in a folder: name it to fix what it leads to"
 
 
 Edits = Callable[[Source], Iterator[Edit]]
-FIXERS: dict[int, list[tuple[str, Edits]]] = {
-    faults.NOT_UTF8: [("the encoding", lambda source: converted(source.document))],
-    faults.BAD_REFERENCE: [("unescaped &", lambda source: reference_edits(source.document))],
+NOTATIONS: dict[int, list[tuple[str, Edits]]] = {
+    faults.NOT_UTF8: [
+        ("the encoding that the file declares", lambda source: converted(source.document, declared_encoding(source.document)))
+    ],
+    faults.BAD_REFERENCE: [
+        ("HTML entities", lambda source: (edit for edit in reference_edits(source.document) if edit.end > edit.start + 1))
+    ],
     faults.BAD_MARKUP: [
         ("CDATA sections", lambda source: cdata_edits(source.document)),
         ("curly quotes", lambda source: quote_edits(source.document)),
     ],
+    faults.UNKNOWN_TAG: [("tags in other letters", lambda source: in_other_letters(source.document, name_edits(source)))],
+    faults.UNBALANCED: [("tags in other letters", lambda source: in_other_letters(source.document, end_edits(source)))],
+    faults.BAD_VALUE: [
+        ("values in other letters", lambda source: in_other_letters(source.document, cures_of_tags(source, faults.BAD_VALUE)))
+    ],
+}
+"""Notations that `tml` does not read and that can be read in one way only. No single keystroke makes one of what was right."""
+
+GUESSES: dict[int, list[tuple[str, Edits]]] = {
+    faults.BAD_REFERENCE: [("unescaped &", lambda source: reference_edits(source.document))],
     faults.UNKNOWN_TAG: [("names of tags", name_edits)],
     faults.UNBALANCED: [("names of tags", end_edits)],
     faults.REPEATED: [("repeated attributes", lambda source: cures_of_tags(source, faults.REPEATED))],
@@ -56,68 +80,93 @@ FIXERS: dict[int, list[tuple[str, Edits]]] = {
     faults.DUPLICATE: [("identifiers", lambda source: cures_of_tags(source, faults.DUPLICATE))],
     faults.UNKNOWN_REFERENCE: [("references", lambda source: cures_of_tags(source, faults.UNKNOWN_REFERENCE))],
 }
-"""What may help against a fault in all of a document, each with the words for it."""
+"""What probably helps against a fault in all of a document, each with the words for it: made only with `--unsafe`."""
+
+ONE_KEYSTROKE = "one keystroke"
+"""The words for a keystroke that explains a fault alone."""
 
 ONE_CURE = "what is at fault"
-"""The words for the cure of one fault, where it is none of those."""
+"""The words for the cure of one fault, if it is none of those."""
 
 CURED_WARNINGS = {"tag-as-text": "tags without their <", "misspelled-attribute": "names of attributes", "value-form": "values of times"}
 """The kinds of warnings of which some have one cure only, each with the words for it."""
 
+OTHER_DATE = re.compile(rb"\d{4}([/.]?)\d\d\1\d\d")
+"""A date in another notation: with other signs between its parts, or none."""
+
 
 @dataclass(frozen=True)
 class Step:
-    """A kind of slip that was mended: the words for it, its edits, the document after them, and the fault that is first then."""
+    """A kind of slip that was fixed: the words for it, its edits, the document after them, and the fault that is first then."""
 
     words: str
     edits: list[Edit]
     after: bytes
     following: Fault | None
+    is_sure: bool = False
+    """Whether it may be made without `--unsafe`."""
 
 
 @dataclass
 class Fixed:
-    """A document that was mended as far as there is one cure only, what was changed, and the fault that remains."""
+    """A document that was fixed as far as there is one cure only, what was changed, and the fault that remains."""
 
     before: bytes
     after: bytes
     changes: list[str] = field(default_factory=list)
     left: Fault | None = None
+    candidates: tuple[Edit, ...] = ()
+    """What may have been meant if a fault is left, each an edit of the document after the changes."""
+
+    def perhaps(self) -> Iterator[str]:
+        """What may help against the fault that is left, in words."""
+        if self.left is not None and self.left.number == faults.NOT_UTF8:
+            yield from (f"--from {name}: {shown(line)}" for name, line in readings(self.after, self.left.offset))
+        places = Places(self.after)
+        yield from (f"perhaps {told(self.after, edit, places)}" for edit in self.candidates)
 
 
 @dataclass(frozen=True)
 class FixReport:
-    """What became of one file: what is printed of it, whether it can be or was mended, and whether a fault is left."""
+    """What became of one file: what is printed of it, whether it can be or was fixed, whether a fault is left, and whether it is known
+    what may have been meant."""
 
     text: str
     changed: bool = False
     left: bool = False
+    question: bool = False
     problem: bool = False
 
 
-def fix(program: Program, found: Found, writes: bool) -> FixReport:
-    """Mends one file, in memory or where that is wanted in its place."""
+def fix(program: Program, found: Found, writes: bool, unsafe: bool = False, encoding: str | None = None) -> FixReport:
+    """Fixes one file, in memory or, if `writes`, in its place; with `unsafe` by guesses too, and from an `encoding` if it declares none."""
     if found.is_found_link():
         raise CannotRead(FOUND_LINK)
     with document_of(found) as document:
-        fixed = mended(program, document)
+        fixed = mended(program, document, unsafe, encoding)
     if writes and fixed.changes:
         write(fixed, found)
-    return FixReport(report(found.path, fixed, writes), bool(fixed.changes), fixed.left is not None)
+    perhaps = list(islice(fixed.perhaps(), MOST_CANDIDATES + 1))
+    return FixReport(report(found.path, fixed, writes, perhaps), bool(fixed.changes), fixed.left is not None, bool(perhaps))
 
 
-def not_mended(found: Found, problem: str) -> FixReport:
+def not_fixed(found: Found, problem: str) -> FixReport:
     """The report of a file that could not be looked at or written."""
-    return FixReport(f"{shown(found.path)}: not mended: {shown(problem)}\n", problem=True)
+    return FixReport(f"{shown(found.path)}: not fixed: {shown(problem)}\n", problem=True)
 
 
-def mended(program: Program, document: bytes) -> Fixed:
-    """Mends a document, one kind of slip after another, as long as `tml` goes further each time, and then what it accepts as it is."""
+def mended(program: Program, document: bytes, unsafe: bool = False, encoding: str | None = None) -> Fixed:
+    """Fixes a document, one fault after another, as long as `tml` goes further each time, and then what it accepts as it is."""
     fixed = Fixed(document, document)
     fault = first_fault(program, document)
     for _ in range(ROUNDS):
-        step = next(steps(program, fixed.after, fault) if fault is not None else steps_of_warnings(program, fixed.after), None)
+        found = steps_of_warnings(program, fixed.after, unsafe)
+        if fault is not None:
+            origin = cache(partial(found_origin, program, fixed.after, fault))
+            found = chain(step_from(program, fixed.after, fault, encoding), steps(program, fixed.after, fault, origin, unsafe))
+        step = next(found, None)
         if step is None:
+            fixed.candidates = origin().candidates if fault is not None else ()
             break
         fixed.after, fault = step.after, step.following
         fixed.changes.append(step.words)
@@ -125,30 +174,77 @@ def mended(program: Program, document: bytes) -> Fixed:
     return fixed
 
 
-def steps(program: Program, document: bytes, fault: Fault) -> Iterator[Step]:
-    """The changes that help against a fault: after each the document is accepted, or its first fault comes later."""
+def step_from(program: Program, document: bytes, fault: Fault, encoding: str | None) -> Iterator[Step]:
+    """The change out of an encoding of a document that is not UTF-8 and declares no encoding that it can be of."""
+    if encoding is not None and fault.number == faults.NOT_UTF8 and is_undeclared(document):
+        step = helping(program, document, fault, f"the encoding {encoding}", list(converted(document, encoding)))
+        yield from [] if step is None else [step]
+
+
+def steps(program: Program, document: bytes, fault: Fault, origin: Callable[[], Explained], unsafe: bool) -> Iterator[Step]:
+    """The changes that help against a fault: after each the document is accepted, or its first fault comes later.
+
+    Another notation comes first, then a keystroke that explains the fault alone. What is only probable needs `unsafe`, and is nothing
+    that a keystroke explains too.
+    """
     units = units_of_whole(program, document) if fault.number > faults.BAD_MARKUP else None
-    # Of a kind that is there too often no slip is mended alone either, or a document of them would be looked at again for each.
-    is_settled = False
-    for words, edits_of in FIXERS.get(fault.number, []):
+    for step in steps_by(program, document, fault, units, NOTATIONS):
+        yield replace(step, is_sure=True)
+    restored = origin().restored
+    explained = helping(program, document, fault, ONE_KEYSTROKE, [restored]) if restored is not None else None
+    if explained is not None:
+        yield replace(explained, is_sure=True)
+    if not unsafe:
+        return
+    # Of a kind that is there too often no slip is fixed alone either, or a document of them would be looked at again for each.
+    guesses = list(steps_by(program, document, fault, units, GUESSES))
+    yield from guesses
+    cure = None if guesses else helping(program, document, fault, ONE_CURE, explain(program, document, fault).edits)
+    if cure is not None:
+        yield cure
+
+
+def steps_by(
+    program: Program, document: bytes, fault: Fault, units: Units | None, table: dict[int, list[tuple[str, Edits]]]
+) -> Iterator[Step]:
+    """The changes by the rows of a table for a fault that help against it. What is there too often is left."""
+    for words, edits_of in table.get(fault.number, []):
         edits = list(islice(edits_of(Source(document, units)), MOST_EDITS + 1))
         step = helping(program, document, fault, words, edits) if len(edits) <= MOST_EDITS else None
-        is_settled = is_settled or step is not None or len(edits) > MOST_EDITS
         if step is not None:
             yield step
-    step = None if is_settled else helping(program, document, fault, ONE_CURE, explain(program, document, fault).edits)
-    if step is not None:
-        yield step
 
 
-def steps_of_warnings(program: Program, document: bytes) -> Iterator[Step]:
+def in_other_letters(document: bytes, edits: Iterable[Edit]) -> Iterator[Edit]:
+    """The edits that change the case of more than one letter, the sign between words, or what nobody sees, and nothing else."""
+    for edit in edits:
+        old, new = (text.decode("utf-8", "surrogateescape") for text in (document[edit.start : edit.end], edit.text))
+        differing = sum(one != other for one, other in zip(old, new, strict=False)) + abs(len(old) - len(new))
+        if plain(old) == plain(new) and (differing > 1 or not old.isascii()):
+            yield edit
+
+
+def steps_of_warnings(program: Program, document: bytes, unsafe: bool) -> Iterator[Step]:
     """The changes of what is suspect in an accepted document and has one cure only: after each it is accepted still."""
     source = Source(document, units_of_whole(program, document))
     for name, words in CURED_WARNINGS.items():
         edits = [edit for warning in warnings_of(program, source, Lint(frozenset({name}))) for edit in warning.edits]
+        if not unsafe:
+            edits = [edit for edit in edits if is_sure(document, name, edit)]
         changed = applied(document, edits)
         if changed != document and first_fault(program, changed) is None:
             yield Step(f"{words} ({counted(len(edits), 'change')})", edits, changed, None)
+
+
+def is_sure(document: bytes, warning: str, edit: Edit) -> bool:
+    """Whether the cure of a warning is its only explanation: a `<` lost after a blank, a name that is one keystroke away, a date in
+    another notation."""
+    old = document[edit.start : edit.end]
+    if warning == "tag-as-text":
+        return document[edit.start - 1 : edit.start] in (b"\n", b" ", b">") and edit.text == b"<" and not old
+    if warning == "misspelled-attribute":
+        return is_near(old.decode("utf-8", "replace"), edit.text.decode())
+    return warning == "value-form" and OTHER_DATE.fullmatch(old) is not None
 
 
 def helping(program: Program, document: bytes, fault: Fault, words: str, edits: list[Edit]) -> Step | None:
@@ -186,7 +282,7 @@ def first_fault(program: Program, document: bytes) -> Fault | None:
     return fault
 
 
-def difference(path: str, fixed: Fixed, how: str = "mended") -> str:
+def difference(path: str, fixed: Fixed, how: str = "fixed") -> str:
     """The changes line by line."""
     old, new = lines_of(fixed.before), lines_of(fixed.after)
     if len(old) != len(new):
@@ -237,19 +333,20 @@ def printed(line: bytes) -> str:
     return "\t".join(shown(part) for part in characters(line.rstrip(b"\r")).split("\t"))
 
 
-def report(path: str, fixed: Fixed, writes: bool) -> str:
-    """What is printed of one file: the changes, unless they are written, and what is left to mend."""
+def report(path: str, fixed: Fixed, writes: bool, perhaps: list[str]) -> str:
+    """What is printed of one file: the changes, unless they are written, what is left to fix, and what may have been meant."""
     lines, changed = [], bool(fixed.changes)
     if changed:
-        lines.append(f"{shown(path)}: {'mended' if writes else 'can be mended'}: {', '.join(fixed.changes)}")
+        lines.append(f"{shown(path)}: {'fixed' if writes else 'can be fixed'}: {', '.join(fixed.changes)}")
     if fixed.left is not None:
         then = "then left" if changed and not writes else "left"
         place = Places(fixed.after).place(fixed.left.offset)
-        lines.append(f"{located(path, place)}: {then} to mend: {fixed.left.title()} at byte {fixed.left.offset}; see `tml-corpus check`")
+        lines.append(f"{located(path, place)}: {then} to fix: {fixed.left.title()} at byte {fixed.left.offset}; see `tml-corpus check`")
+        lines += [*(f"  {one}" for one in perhaps[:MOST_CANDIDATES]), *["  or others"] * (len(perhaps) > MOST_CANDIDATES)]
     changes = difference(path, fixed) if changed and not writes else ""
     return changes + "".join(line + "\n" for line in lines)
 
 
 def write(fixed: Fixed, found: Found) -> None:
-    """Writes a mended document, if the file is still what was mended."""
+    """Writes a fixed document, if the file is still what was fixed."""
     replace_file(found.place(), fixed.after, fixed.before, found.top)

@@ -12,6 +12,7 @@ from tml.tags.source import Explanation, Source
 
 from ..asking.program import FAULT, Program, Reply, believed
 from ..lint.kinds import Lint
+from ..origins.restored import advise, found_origin
 from .judgement import Judgement, problem_of
 from .placed import Mark, PlacedFault, PlacedNote, PlacedWarning
 
@@ -31,6 +32,8 @@ def judge_document(
     believed(Reply(reply.status, reply.text, reply.command, len(document)))
     places = Places(document)
     found = explain(program, document, fault, places) if explained or more else Explanation()
+    if explained:
+        advise(document, found, found_origin(program, document, fault), places)
     judgement = Judgement(path, [placed(places, fault, found, explained, False)])
     if more:
         from .further import further_faults

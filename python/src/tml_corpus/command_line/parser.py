@@ -64,15 +64,27 @@ def tags_words(words: Parser) -> None:
 def fix_words(words: Parser) -> None:
     """The words of `fix`."""
     words.description = (
-        "Mends each fault and warning that has only one cure, such as an unescaped &, lost quotes, CDATA, Latin-1, mistyped names, "
-        "values and dates, and references to an event that has one instance. It prints the changes, and writes them with --write. "
-        "The status is 0 if tml then accepts each file."
+        "Fixes each fault that one wrong keystroke explains, if only one meaning is left, and notations that tml does not read, such as "
+        "HTML entities, CDATA and the encoding that a file declares. It prints the changes, and writes them with --write. What may have "
+        "been meant elsewhere it prints as a question. The status is 0 if tml then accepts each file."
     )
     words.epilog = "Example: tools/tml-corpus fix samples"
     what = words.add_mutually_exclusive_group()
     what.add_argument("--diff", action="store_true", help="print the changes and write nothing (the default)")
-    what.add_argument("--write", action="store_true", help="overwrite the files with the mended documents")
+    what.add_argument("--write", action="store_true", help="overwrite the files with the fixed documents")
+    words.add_argument("--unsafe", action="store_true", help="also make changes that are only probable: names, values, dates")
+    encoding = "turn files that are not UTF-8 and declare no encoding into UTF-8 from this one, such as cp1251"
+    words.add_argument("--from", dest="encoding", type=encoding_of, metavar="ENCODING", help=encoding)
     corpus_words(words)
+
+
+def encoding_of(name: str) -> str:
+    """The name of an encoding of text."""
+    try:
+        "".encode(name)
+    except (LookupError, ValueError):
+        raise argparse.ArgumentTypeError(f"Python knows no encoding {shown(name)}") from None
+    return name
 
 
 def timeline_words(words: Parser) -> None:

@@ -57,7 +57,7 @@ def redundant(document: OpenDocument, first: int, last: int) -> Iterator[Json]:
 
 
 def all_cures(document: OpenDocument) -> Iterator[Json]:
-    """All that has one cure only, in one edit from the first change to the last one."""
+    """All that `fix` writes without `--unsafe`, in one edit from the first change to the last one."""
     fixed = mended(document.program, document.text)
     if fixed.changes:
-        yield action(document, f"Mend {', '.join(fixed.changes)}", FIX_ALL, [difference(fixed.before, fixed.after)])
+        yield action(document, f"Fix {', '.join(fixed.changes)}", FIX_ALL, [difference(fixed.before, fixed.after)])

@@ -1,7 +1,7 @@
 """What mends what is said of a document: for each fault and each warning the edits that its sentence names.
 
-`tml` is asked about each of them: what is preferred lets it come further, and what a person has to choose lets it come as far at least.
-What may be only a consequence of another fault is offered as that, and never preferred.
+`tml` checks the document with each of them: what is preferred lets it come further, and what a person has to choose lets it come as far
+at least. Preferred is only what `fix` writes without `--unsafe`. What may be only a consequence of another fault is offered as that.
 """
 
 from __future__ import annotations
@@ -17,7 +17,7 @@ from tml.tags.profile import LEFT, RIGHT
 from tml.tags.source import Explanation, Source
 from tml.tags.units import unit_at
 
-from ..check.fix import ONE_CURE
+from ..check.fix import ONE_CURE, ONE_KEYSTROKE, is_sure
 from .document import OpenDocument
 from .edits import BEYOND, action, how_far, titled
 from .possible import blanked, possible
@@ -52,14 +52,16 @@ def most_for(document: OpenDocument) -> int:
 
 
 def of_first_fault(document: OpenDocument, lines: tuple[int, int], seen: set[tuple[Edit, ...]]) -> Iterator[Json]:
-    """All slips of the kind of the first fault, mended at once."""
+    """One keystroke that explains the first fault, or all slips of its kind at once. Only what is sure is preferred, as with `fix`."""
     fault = document.fault
     for step in document.steps:
-        if fault is not None and is_near(lines, fault.offset, *(edit.start for edit in step.edits)):
+        if tuple(step.edits) not in seen and fault is not None and is_near(lines, fault.offset, *(edit.start for edit in step.edits)):
+            is_first = not seen
             seen.add(tuple(step.edits))
             edits = step.edits if len(step.edits) <= MOST_EDITS else [difference(document.text, step.after)]
-            title = titled(document, document.text, edits, lines) if step.words.startswith(ONE_CURE) else f"Mend {step.words}"
-            yield action(document, title, QUICK_FIX, edits, preferred=True)
+            is_single = step.words.startswith((ONE_CURE, ONE_KEYSTROKE))
+            title = titled(document, document.text, edits, lines) if is_single else f"Fix {step.words}"
+            yield action(document, title, QUICK_FIX, edits, preferred=step.is_sure and is_first)
 
 
 def of_faults(document: OpenDocument, lines: tuple[int, int], seen: set[tuple[Edit, ...]]) -> Iterator[Json]:
@@ -77,7 +79,7 @@ def of_faults(document: OpenDocument, lines: tuple[int, int], seen: set[tuple[Ed
 
 def as_perhaps(made: Json) -> Json:
     """What mends a fault that may be only a consequence of those before it."""
-    return made | {"title": f"{made['title']}, if no fault before is the cause", "isPreferred": False}
+    return made | {"title": f"{made['title']}, if no fault before is the cause"}
 
 
 def is_near(lines: tuple[int, int], *places: int) -> bool:
@@ -98,7 +100,7 @@ def of_fault(
     for way in sorted(helping, key=lambda way: (reached[way], left is not None and relation_in(way) not in left)):
         clashes = left is not None and relation_in(way) not in ("", *left)
         title = titled(document, found.document, way, lines) + (", which clashes with the other links" if clashes else "")
-        yield action(document, title, QUICK_FIX, way, preferred=way == sure)
+        yield action(document, title, QUICK_FIX, way)
 
 
 def relation_in(way: tuple[Edit, ...]) -> str:
@@ -125,7 +127,8 @@ def of_warnings(document: OpenDocument, lines: tuple[int, int], seen: set[tuple[
         for way in filter(None, ways):
             if way not in seen and how_far(document.program, document.text, None, way) == BEYOND:
                 seen.add(way)
-                yield action(document, titled(document, document.text, way, lines), QUICK_FIX, way, preferred=way == warning.edits)
+                preferred = way == warning.edits and all(is_sure(document.text, warning.name, edit) for edit in way)
+                yield action(document, titled(document, document.text, way, lines), QUICK_FIX, way, preferred=preferred)
 
 
 def difference(before: bytes, after: bytes) -> Edit:

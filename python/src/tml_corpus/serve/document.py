@@ -35,6 +35,8 @@ from ..document.wrappers import Unwrapping
 from ..files.finding import Found
 from ..lint.kinds import Lint
 from ..lint.warnings import Finding, warnings_of
+from ..origins.restored import Found as Origin
+from ..origins.restored import advise, found_origin
 from .places import ClientPlaces
 
 
@@ -145,8 +147,16 @@ class OpenDocument:
     @cached_property
     def explained(self) -> list[tuple[Fault, Explanation, bool]]:
         """Its first fault, and what that is about."""
-        fault = self.fault
-        return [] if fault is None else [(fault, explain(self.program, self.text, fault, self.line_places), False)]
+        if self.fault is None:
+            return []
+        found = explain(self.program, self.text, self.fault, self.line_places)
+        advise(self.text, found, self.origin, self.line_places)
+        return [(self.fault, found, False)]
+
+    @cached_property
+    def origin(self) -> Origin:
+        """What one keystroke explains of its first fault."""
+        return Origin() if self.fault is None else found_origin(self.program, self.text, self.fault)
 
     @cached_property
     def further(self) -> list[tuple[Fault, Explanation, bool]]:
@@ -158,8 +168,8 @@ class OpenDocument:
 
     @cached_property
     def steps(self) -> list[Step]:
-        """What mends all slips of the kind of its first fault."""
-        return [] if self.fault is None else list(steps(self.program, self.text, self.fault))
+        """What fixes its first fault: by one keystroke, or with all slips of its kind."""
+        return [] if self.fault is None else list(steps(self.program, self.text, self.fault, lambda: self.origin, unsafe=True))
 
     def judgement(self, *, further: bool) -> Judgement:
         """Its fault, with further ones where they are wanted, or what is suspect in it."""

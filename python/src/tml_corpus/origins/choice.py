@@ -1,0 +1,260 @@
+"""Which origin of a faulty document is meant, if that can be known: the one whose meaning is left when worse ones are set aside."""
+
+from __future__ import annotations
+
+import re
+from bisect import bisect_left, bisect_right
+from collections import Counter, defaultdict
+from collections.abc import Callable, Iterator, Sequence
+from dataclasses import dataclass, field
+
+from tml.explaining.attributes import OTHER_RELATIONS, SAME_RELATIONS, UNCLEAR_RELATIONS
+from tml.explaining.faults import Fault
+from tml.tags.profile import IDENTIFIERS, ROOT, TABLE, WRAPPERS, Kind
+
+from .draft import SPACE, Draft, Tag, tags_of
+from .keyboard import Slip
+from .search import NOT_TEXT, Check, Origin, Search
+
+BARE = (ROOT, "DOC", "BODY", "DCT")
+"""The tags that mostly have no text of their own."""
+
+MEANT_ELSEWHERE = OTHER_RELATIONS.keys() | SAME_RELATIONS.keys() | UNCLEAR_RELATIONS.keys()
+"""Relations of other schemes."""
+
+MOST_COMPARED, MOST_READ = 400, 4 << 20
+"""Of more origins, or of origins that are further apart so that more characters are compared, none is set aside."""
+
+BLEMISHES = ("markup in text", "slash", "bare text", "shape", "identifier", "glued", "gap")
+"""What a document would hardly have, the worst first. The last of these sets origins aside only if they differ in white space alone."""
+
+SPACED_END = re.compile(rf"{SPACE}/?>\Z")
+
+
+@dataclass(frozen=True)
+class Restored:
+    """The only origin that is left."""
+
+    origin: Origin
+
+
+@dataclass(frozen=True)
+class Question:
+    """Origins with different meanings, one of each, or none if there were too many to look at."""
+
+    likely: tuple[Origin, ...] = ()
+    """Those that are in no doubt by themselves."""
+    unlikely: tuple[Origin, ...] = ()
+
+
+def chosen(draft: Draft, fault: Fault, check: Check) -> Restored | Question | None:
+    """What a document with a fault was; None if no keystroke explains the fault."""
+    found = Search(draft, fault, check).origins()
+    if found is None:
+        return Question()
+    return Choice(draft, found).result() if found else None
+
+
+@dataclass
+class Likeness:
+    """How tags of one name and kind are written: how many there are, and what is before, after and between them."""
+
+    count: int = 0
+    lefts: set[tuple[bool, bool] | None] = field(default_factory=set)
+    rights: set[tuple[bool, bool] | None] = field(default_factory=set)
+    gaps: set[str] = field(default_factory=set)
+    letters: set[str] = field(default_factory=set)
+    is_spaced: bool = False
+    """Whether there is white space before the `>` of one."""
+
+    def learn(self, tag: Tag, text: str) -> None:
+        """Takes in how one more tag is written."""
+        self.count += 1
+        self.lefts.add(kind_of(text[tag.start - 1 : tag.start]))
+        self.rights.add(kind_of(text[tag.end : tag.end + 1]))
+        self.gaps.add(gap(tag, text))
+        self.letters.add(letters(tag))
+        self.is_spaced |= SPACED_END.search(text, tag.start, tag.end) is not None
+
+
+@dataclass
+class Style:
+    """How the tags that no origin changes are written."""
+
+    by_name: defaultdict[str, defaultdict[str, Likeness]] = field(default_factory=lambda: defaultdict(lambda: defaultdict(Likeness)))
+    """For each name and each kind of tag."""
+    with_text: set[str] = field(default_factory=set)
+    """The names of tags that have text of their own."""
+
+
+def kind_of(character: str) -> tuple[bool, bool] | None:
+    """Whether a letter or digit is a digit, and whether it is upper-case; None for another character."""
+    return (character.isdigit(), character.isupper()) if character.isalnum() else None
+
+
+def letters(tag: Tag) -> str:
+    """How the identifier of a tag begins, up to its first digit."""
+    found = re.match(r"\D*", tag.identifier())
+    return found[0] if found else ""
+
+
+def shape(identifier: str) -> str:
+    """An identifier whatever its numbers are."""
+    return re.sub(r"\d+", "0", identifier)
+
+
+def gap(tag: Tag, text: str) -> str:
+    """The white space before a tag."""
+    start = tag.start
+    while start and text[start - 1].isspace():
+        start -= 1
+    return text[start : tag.start]
+
+
+class Choice:
+    """The choice between some origins."""
+
+    def __init__(self, draft: Draft, origins: Sequence[Origin]) -> None:
+        self.draft, self.origins = draft, origins
+        self.low, self.high = min(one.start for one in origins), max(one.end for one in origins)
+        self.style = self.style_elsewhere()
+
+    def style_elsewhere(self) -> Style:
+        """The style of the tags that no origin touches."""
+        touched = sorted({place for one in self.origins for place in range(one.keystroke.start - 1, one.keystroke.end + 2)})
+        style, last, last_is_calm = Style(), 0, False
+        path: list[str] = []
+        for tag in self.draft.tags:
+            is_calm = bisect_left(touched, tag.start) == bisect_right(touched, tag.end)
+            if path and is_calm and last_is_calm and path[-1] not in style.with_text and self.draft.text[last : tag.start].strip():
+                style.with_text.add(path[-1])
+            if is_calm:
+                style.by_name[tag.name][tag.kind].learn(tag, self.draft.text)
+            if tag.kind == "start":
+                path.append(tag.name)
+            elif tag.kind == "end" and path:
+                path.pop()
+            last, last_is_calm = tag.end, is_calm
+        return style
+
+    def result(self) -> Restored | Question:
+        """The origin that is left, or those of each meaning; none if they are too far apart for a comparison."""
+        if (self.high - self.low) * len(self.origins) > MOST_READ:
+            return Question()
+        groups: dict[str, list[Origin]] = {}
+        for origin in self.origins:
+            groups.setdefault(self.meaning(origin), []).append(origin)
+        left = list(groups.values())
+        if len(self.origins) <= MOST_COMPARED:
+            left = self.without_worse(left)
+        best = [min(group, key=lambda origin: (self.own_blemishes(origin).total(), len(origin.stretch))) for group in left]
+        blemishes = [self.own_blemishes(origin) for origin in best]
+        likely = tuple(origin for origin, found in zip(best, blemishes, strict=True) if not found)
+        if len(best) == len(likely) == 1:
+            return Restored(best[0])
+        unlikely = [origin for origin, found in zip(best, blemishes, strict=True) if found and not found["markup in text"]]
+        return Question(likely, tuple(unlikely))
+
+    def without_worse(self, groups: list[list[Origin]]) -> list[list[Origin]]:
+        """The groups with the fewest blemishes of each kind, the worst kind first."""
+        if len(groups) < 2:
+            return groups
+        counted = [[self.blemishes(origin) for origin in group] for group in groups]
+        left = list(range(len(groups)))
+        for kind in BLEMISHES:
+            if kind == "gap" and len({re.sub(r"\s|\\[rn]", "", self.meaning(groups[number][0])) for number in left}) > 1:
+                continue
+            fewest = {number: min(one[kind] for one in counted[number]) for number in left}
+            left = [number for number in left if fewest[number] == min(fewest.values())]
+        return [groups[number] for number in left]
+
+    def part(self, origin: Origin) -> str:
+        """What an origin has in the stretch that is common to all."""
+        return self.draft.text[self.low : origin.start] + origin.stretch + self.draft.text[origin.end : self.high]
+
+    def meaning(self, origin: Origin) -> str:
+        """What the common stretch says: its tags with their attributes in any order, and its text."""
+        part, found, at = self.part(origin), [], 0
+        for tag in tags_of(part):
+            found += [part[at : tag.start], (tag.name, tag.kind, sorted(tag.pairs))]
+            at = tag.end
+        return repr([*found, part[at:]])
+
+    def blemishes(self, origin: Origin) -> Counter[str]:
+        """What is unlikely in the common stretch of an origin."""
+        return Counter(self.unlikely(self.part(origin), self.low, self.high, lambda tag: True))
+
+    def own_blemishes(self, origin: Origin) -> Counter[str]:
+        """What is unlikely about the changed place itself; a letter of the text is in doubt, and so is a sign that it may have had."""
+        key = origin.keystroke
+        start = key.start - origin.start
+        end = start + len(key.text)
+        found = Counter(self.unlikely(origin.stretch, origin.start, origin.end, lambda tag: tag.start <= end and tag.end >= start))
+        del found["gap"]
+        tags = list(tags_of(origin.stretch))
+        struck = self.draft.text[key.start : key.end] if key.slip is Slip.STRUCK else ""
+        is_typed = key.slip in (Slip.LOST, Slip.NEIGHBOUR) and not any(tag.start <= start < tag.end for tag in tags)
+        if is_typed or struck == "&" or (struck == "<" and not any(tag.start <= start <= tag.end for tag in tags)):
+            found["typed text"] += 1
+        if any(self.may_be_meant(origin)):
+            found["value"] += 1
+        return found
+
+    def may_be_meant(self, origin: Origin) -> Iterator[bool]:
+        """For each changed value, whether it may have been meant: as one of another scheme, or as the identifier of a tag that was lost."""
+        first, last = self.draft.within(origin.start, origin.end)
+        old = {name: value for tag in self.draft.tags[first:last] for name, value in tag.pairs}
+        for tag in tags_of(origin.stretch):
+            for name, value in tag.pairs if tag.name in TABLE else ():
+                row, was = TABLE[tag.name].get(name), old.get(name, value)
+                if row is None or was == value:
+                    continue
+                if row.form.kind is Kind.LISTED:
+                    yield was in MEANT_ELSEWHERE
+                if row.form.kind is Kind.REFERENCE:
+                    shapes = {shape(one) for kind, one in self.draft.declared if kind == row.form.target}
+                    is_needed = name == "eventID" and (row.form.target, value) not in self.draft.referred
+                    yield shape(was) in shapes and not is_needed
+
+    def unlikely(self, part: str, low: int, high: int, looks_at: Callable[[Tag], bool]) -> Iterator[str]:
+        """What is unlikely in a part that is there in place of a stretch: in its text, and about the tags that are looked at."""
+        path, at = self.draft.before[self.draft.within(0, low)[1]], 0
+        padded = (self.draft.text[low - 1 : low] or " ") + part + (self.draft.text[high : high + 1] or " ")
+        for tag in (*tags_of(part), Tag(len(part), len(part), "", "", ())):
+            text = NOT_TEXT.sub("", part[at : tag.start])
+            yield from self.of_text(text, path)
+            if tag.name and looks_at(tag):
+                yield from self.of_tag(tag, part, kind_of(padded[tag.start]), kind_of(padded[tag.end + 1]))
+            if tag.name:
+                path = self.draft.after(path, [tag])
+            at = tag.end
+
+    def of_text(self, text: str, path: int) -> Iterator[str]:
+        """What is unlikely in a text."""
+        yield from ["markup in text"] * text.count(">")
+        yield from ["slash"] * (text.startswith("/") + (text.endswith("/") and len(text) > 1))
+        inner = self.draft.above[path][1] if path > 0 else ""
+        if text.strip() and inner in BARE and inner not in self.style.with_text:
+            yield "bare text"
+
+    def of_tag(self, tag: Tag, part: str, left: tuple[bool, bool] | None, right: tuple[bool, bool] | None) -> Iterator[str]:
+        """What is unlikely about a tag between two characters, by those that are like it."""
+        named = self.style.by_name[tag.name]
+        alike = named[tag.kind]
+        has_some = alike.count > 2
+        yield from ["glued"] * (has_some and left is not None and left not in alike.lefts)
+        yield from ["glued"] * (has_some and right is not None and right not in alike.rights)
+        if tag.kind == "empty" and tag.name in (ROOT, *WRAPPERS, "EVENT", "SIGNAL", "TIMEX3") and not alike.count:
+            yield "shape"
+        if SPACED_END.search(part, tag.start, tag.end) and not any(one.is_spaced for one in named.values()):
+            yield "shape"
+        if tag.name in WRAPPERS and self.is_there(tag.name.swapcase()) and not self.is_there(tag.name):
+            yield "shape"
+        if has_some and tag.name in IDENTIFIERS and not any(letters(tag) in one.letters for one in named.values()):
+            yield "identifier"
+        if has_some and gap(tag, part) not in alike.gaps:
+            yield "gap"
+
+    def is_there(self, name: str) -> bool:
+        """Whether some tag that no origin touches has a name."""
+        return any(one.count for one in self.style.by_name[name].values())
