@@ -7,7 +7,7 @@ import string
 from collections.abc import Callable
 
 from canon import many_attributes
-from hard_shapes import TEXTS, Case, Shape
+from hard_shapes import KIB, TEXTS, Case, Shape
 from measure import (
     PREFIX,
     SUFFIX,
@@ -167,7 +167,7 @@ FAULTY: dict[str, Maker] = {
     "an attribute twice at the end": ends_with(tags_of(8, 1), b'<s a="" a=""/>'),
     "an identifier twice at the end": ends_with(events_in_no_order, b'<EVENT eid="00000000" class="STATE"/>'),
     "an unknown reference at the end": ends_with(events_in_no_order, b'<MAKEINSTANCE eiid="i" eventID="e"/>'),
-    "too many intervals": times,
+    "too many intervals": lambda size: times(max(size, 64 * KIB)),
     "a bad value first, no UTF-8 at the end": begins_with(b'<EVENT eid="e" class="?"/>', ends_with(pieces(b"<P/>"), b"\xff")),
     "an unknown tag first, bad markup at the end": begins_with(b"<Q/>", ends_with(pieces(b"<P/>"), b"<")),
     "an identifier twice first, a bad value at the end": begins_with(
