@@ -2,15 +2,15 @@
 """Measures `tml` over hard documents, by shape and command, each at three sizes, beside bench/plain/plain.rs.
 
 Prints a table in Markdown with a row for each shape, command and size: the millions of instructions of `tml` and of the plain
-program by callgrind (Debian's valgrind), their ratio, the exponent by which those of `tml` grow with the size, and the greatest
-exponent that is allowed. No run over an accepted document may take both more than 350 million instructions and more than three
-times those of the plain program, and none may grow faster than
+program by callgrind (Debian's valgrind), their ratio, those of `tml` for each unit of
 
     (bytes + answer + cited links x (points + orders) + points x orders / 64) x log
 
-The last column says what is not kept: `count`, `growth` or `time`, or `alone` where there are more instructions than that and
-the plain program has no answer. If programs disagree, that is reported, and the status is 1. Needs rustc in the PATH.
-Build `tml` first, as README.md says.
+and the exponent by which they grow with the size, next to the greatest exponent of a part of this sum. No run over an accepted
+document may take both more than 350 million instructions and more than three times those of the plain program, and none may grow
+faster than that sum. The last column says what is not kept: `count`, `growth` or `time`, or `alone` if there are more instructions
+than that and the plain program has no answer. If the programs disagree, it says `differs`, and the status is 1. Needs rustc in the
+PATH. Build `tml` first, as README.md says.
 
 usage: bench/hard.py [OPTIONS] [SHAPE ..]       SHAPE is a name or a pattern such as 'a ring*' (all shapes if left out)
 """
@@ -138,7 +138,8 @@ def line(row: Row, before: Row | None, limit: float, count: float) -> str:
     ratio = row.ours / row.by_hand if row.ours and row.by_hand else None
     grown, allowed = growth(row, before)
     columns = [row.shape.name, f"`{row.command}`", size_text(row.shape, row.size), ours, shown(row.by_hand, ".1f"), shown(ratio, ".2f")]
-    columns += [shown(grown, ".2f"), shown(allowed, ".2f"), breaches(row, before, count)]
+    per_unit = row.ours * 1e6 / row.terms.units() if row.ours and row.terms else None
+    columns += [shown(per_unit, ".2f"), shown(grown, ".2f"), shown(allowed, ".2f"), breaches(row, before, count)]
     columns += [] if row.memory is None else [f"{row.memory / KIB:.1f}"]
     return f"| {' | '.join(columns)} |"
 
@@ -151,6 +152,16 @@ def lines(rows: list[Row], chosen: argparse.Namespace) -> Iterator[str]:
         if not chosen.breaches or breaches(row, before, chosen.count):
             yield line(row, before, chosen.timeout, chosen.count)
         before = row
+
+
+def heads(unit: str, memory: bool) -> list[str]:
+    """The first lines of the table."""
+    names = ["shape", "command", "size", f"`tml`, {unit}", "by hand", "ratio", "a unit", "growth", "allowed", "over"]
+    rules = ["---"] * 2 + ["--:"] * 7 + ["---"]
+    if memory:
+        names.append("MiB")
+        rules.append("--:")
+    return [f"| {' | '.join(names)} |", f"|{'|'.join(rules)}|"]
 
 
 def accepted(tml: str, shapes: list[Shape], divide: int) -> bool:
@@ -201,9 +212,7 @@ def main() -> int:
     differ = False
     with tempfile.TemporaryDirectory() as folder, ThreadPoolExecutor(chosen.jobs) as pool:
         measuring = Measuring(chosen, chosen.plain or built(Path(folder)))
-        unit = "ms" if chosen.seconds else "millions"
-        print(f"| shape | command | size | `tml`, {unit} | by hand | ratio | growth | allowed | over |{' MiB |' if chosen.memory else ''}")
-        print(f"|---|---|--:|--:|--:|--:|--:|--:|---|{'--:|' if chosen.memory else ''}")
+        print("\n".join(heads("ms" if chosen.seconds else "millions", chosen.memory)))
         for rows in pool.map(measuring.rows, shapes):
             for text in lines(rows, chosen):
                 print(text, flush=True)

@@ -5,8 +5,9 @@ from __future__ import annotations
 import datetime
 import random
 from collections.abc import Callable, Sequence
+from dataclasses import replace
 
-from hard_nets import NET_COMMANDS, chain
+from hard_nets import NET_COMMANDS, chain, in_a_ring
 from hard_shapes import NETS, Case, Links, Shape, net
 
 Times = Callable[[int], list[str]]
@@ -77,17 +78,32 @@ def in_no_order(times: Times) -> Times:
     return drawn
 
 
+def years_and_days(count: int) -> list[str]:
+    """A year with no day, and the first day after it, each as often as the other."""
+    return dates(["1998-XX-XX"] * (count // 2) + ["1999-01-01"] * (count - count // 2))
+
+
 def alone(times: Times) -> Callable[[int], Case]:
     """Times without a link."""
     return lambda size: net([], 0, times(size))
 
 
-def and_ring(times: Times, share: int = 2) -> Callable[[int], Case]:
-    """One part of so many times, and the rest instances in a ring."""
+def and_ring(times: Times, *pattern: str, share: float = 0.5) -> Callable[[int], Case]:
+    """Times, which are this share of the intervals, and instances in a ring, by these relations in turn."""
 
     def make(size: int) -> Case:
-        count = size // share
-        return net(chain("BEFORE", [*range(count, size), count]), size - count, times(count))
+        count = int(size * share)
+        return net(in_a_ring(range(count, size), *pattern), size - count, times(count))
+
+    return make
+
+
+def and_free_pair(times: Times) -> Callable[[int], Case]:
+    """Times, and two instances of which nothing is known, which are asked for."""
+
+    def make(size: int) -> Case:
+        case = net([], 2, times(size - 2))
+        return replace(case, asked=(f"i{size - 2}", "BEFORE", f"i{size - 1}"))
 
     return make
 
@@ -97,16 +113,16 @@ def some_and_ring(times: Times, count: int) -> Callable[[int], Case]:
 
     def make(size: int) -> Case:
         some = min(count, size // 2)
-        return net(chain("BEFORE", [*range(some, size), some]), size - some, times(some))
+        return net(in_a_ring(range(some, size), "BEFORE"), size - some, times(some))
 
     return make
 
 
-def tied_ring(times: Times, share: int = 2) -> Callable[[int], Case]:
-    """Times, and a chain of instances that begins after the last time and ends before the first one."""
+def tied_ring(times: Times) -> Callable[[int], Case]:
+    """Times, and as many instances in a chain that begins after the last time and ends before the first one."""
 
     def make(size: int) -> Case:
-        count = size // share
+        count = size // 2
         links: Links = [(count, "AFTER", count - 1), *chain("BEFORE", range(count, size)), (size - 1, "BEFORE", 0)]
         return net(links, size - count, times(count))
 
@@ -178,6 +194,29 @@ def slow_cycle(size: int) -> Case:
     return net(links, 2, long + short)
 
 
+def capped(name: str, order: Callable[[int], Sequence[int]]) -> Callable[[int], Case]:
+    """A long duration, and a chain of short ones from its start, through the intervals in this order."""
+
+    def make(size: int) -> Case:
+        links = chain(name, order(size - 1))
+        first = order(size - 1)[0 if name == "IBEFORE" else -1]
+        return net([*links, (size - 1, "BEGUN_BY", first)], 0, [*lengths(size - 1), 'type="DURATION" value="P100000D"'])
+
+    return make
+
+
+def with_selves(case: Callable[[int], Case]) -> Callable[[int], Case]:
+    """The same with as many more links as there may be, each of an interval with itself."""
+
+    def make(size: int) -> Case:
+        made = case(size).document
+        link = b'<TLINK timeID="t%d" relatedToTime="t%d" relType="SIMULTANEOUS"/>'
+        selves = (link % (one % size, one % size) for one in range(4 * size - made.count(b"<TLINK ")))
+        return Case(made.removesuffix(b"</TimeML>") + b"".join(selves) + b"</TimeML>")
+
+    return make
+
+
 def at_most(size: int) -> Case:
     """Durations that last at most so long, each of which includes the next, and instances between them in a chain."""
     half = size // 2
@@ -196,14 +235,18 @@ WITHOUT_LINKS: dict[str, Times] = {
     "mixed XX and days": mixed_with_exact,
     "two years XX": two_years,
     "two years XX in turn": two_years_in_turn,
+    "a year XX and the day after it": years_and_days,
     "days": exact_days,
     "one day": one_day,
 }
 WITH_RING: dict[str, Callable[[int], Case]] = {
-    "months XX and a ring": and_ring(months),
-    "years XX and a ring": and_ring(years),
-    "hours XX and a ring": and_ring(hours),
-    "days and a ring": and_ring(exact_days),
+    "months XX and a ring": and_ring(months, "BEFORE"),
+    "months XX and a ring of a third": and_ring(months, "BEFORE", share=2 / 3),
+    "months XX and a ring by IBEFORE, ENDED_BY": and_ring(months, "IBEFORE", "ENDED_BY"),
+    "years XX and a ring": and_ring(years, "BEFORE"),
+    "hours XX and a ring": and_ring(hours, "BEFORE"),
+    "days and a ring": and_ring(exact_days, "BEFORE"),
+    "days and a ring by IBEFORE, ENDED_BY": and_ring(exact_days, "IBEFORE", "ENDED_BY"),
     "20 months XX and a ring": some_and_ring(months, 20),
     "months XX, a ring tied to the first and the last": tied_ring(months),
     "hours XX, a ring tied to the first and the last": tied_ring(hours),
@@ -220,6 +263,11 @@ PLACED: dict[str, Callable[[int], Case]] = {
     "durations by IBEFORE, in no order": of_lengths("IBEFORE", anyhow),
     "durations by BEFORE, backward": of_lengths("BEFORE", back),
     "durations in a ring": closed_lengths,
+    "a long duration and short ones, by IBEFORE": capped("IBEFORE", onward),
+    "a long duration and short ones, by IBEFORE, backward": capped("IBEFORE", back),
+    "a long duration and short ones, by IAFTER": capped("IAFTER", onward),
+    "a long duration and short ones, by IAFTER, backward": capped("IAFTER", back),
+    "a long duration and short ones, links with themselves": with_selves(capped("IBEFORE", onward)),
     "two chains of durations, a second apart": slow_cycle,
     "durations that include each other": at_most,
 }
@@ -227,4 +275,7 @@ PLACED: dict[str, Callable[[int], Case]] = {
 SHAPES = [Shape(name, alone(times), DATED, NETS) for name, times in WITHOUT_LINKS.items()]
 SHAPES += [Shape(name, make, RINGED, NETS) for name, make in WITH_RING.items()]
 SHAPES += [Shape(name, make, ("seconds", "confirm"), NETS) for name, make in PLACED.items()]
-SHAPES += [Shape("a chain through mixed XX and days", within_days, NET_COMMANDS, NETS)]
+SHAPES += [
+    Shape("a chain through mixed XX and days", within_days, NET_COMMANDS, NETS),
+    Shape("months XX and a free pair", and_free_pair(months), ("possible", "ask"), NETS),
+]

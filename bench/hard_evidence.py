@@ -39,6 +39,11 @@ def entailments(size: int) -> Case:
     return Case(document, other=repeated(b"entails 0 DURING 0\nwalk 1\nspan 0\nwalk 1\nspan 0\n", size))
 
 
+def long_names(size: int) -> Case:
+    """Proofs without a step, each of which is shown with two names of 64 bytes."""
+    return Case(net([], 1, length=64).document, other=repeated(b"entails 0 DURING 0\nwalk 0\nwalk 0\n", size))
+
+
 def long_walks(size: int) -> Case:
     """Proofs over a chain of intervals, each by a walk through all of them."""
     count = 1024
@@ -126,6 +131,7 @@ SHAPES += [
     Shape("evidence: timelines of 1,024 days", days_apart, ("verify",), EVIDENCE),
     Shape("evidence: timelines of mixed XX", overlapping_dates, ("verify",), EVIDENCE),
     Shape("evidence: walks of one step", entailments, ("verify", "renew"), EVIDENCE),
+    Shape("evidence: empty walks, names of 64 bytes", long_names, ("verify",), EVIDENCE),
     Shape("evidence: walks of 2,045 steps", long_walks, ("verify", "renew"), EVIDENCE),
     Shape("evidence: clashes of a ring of 32", clashes_of_a_ring, ("verify", "renew"), EVIDENCE),
     Shape("evidence: cut off at the end", bad_last_line, ("verify", "renew"), EVIDENCE),

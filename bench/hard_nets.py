@@ -32,13 +32,25 @@ def turned(links: Sequence[Link]) -> Links:
     return [(b, INVERSE[name], a) for a, name, b in links]
 
 
+def in_a_ring(order: Sequence[int], *pattern: str) -> Links:
+    """A link from each interval of a sequence to the next one, and from the last one to the first, by these relations in turn."""
+    pairs = zip(order, [*order[1:], order[0]])
+    return [(first, name, second) for (first, second), name in zip(pairs, itertools.cycle(pattern))]
+
+
 def ring(*pattern: str) -> Callable[[int], Case]:
     """All intervals in a ring, by these relations in turn."""
+    return lambda size: net(in_a_ring(range(size), *pattern), size)
 
-    def make(size: int) -> Case:
-        return net([(one, pattern[one % len(pattern)], (one + 1) % size) for one in range(size)], size)
 
-    return make
+def ring_four_times(*pattern: str) -> Callable[[int], Case]:
+    """The same with each link four times."""
+    return lambda size: net(in_a_ring(range(size), *pattern) * 4, size)
+
+
+def key_in_a_ring(*pattern: str) -> Callable[[int], Case]:
+    """Intervals without a link, whose key has them in a ring."""
+    return lambda size: against(net([], size), ring(*pattern)(size))
 
 
 def ring_and_short(first: bool) -> Callable[[int], Case]:
@@ -64,8 +76,7 @@ def shuffled_ring(*pattern: str) -> Callable[[int], Case]:
 
     def make(size: int) -> Case:
         draw = random.Random(72)
-        order = draw.sample(range(size), size)
-        links = [(order[one], pattern[one % len(pattern)], order[(one + 1) % size]) for one in range(size)]
+        links = in_a_ring(draw.sample(range(size), size), *pattern)
         return net(draw.sample(links, size), size)
 
     return make
@@ -257,6 +268,9 @@ CLASHES: dict[str, tuple[Callable[[int], Case], tuple[str, ...]]] = {
     "a ring by IBEFORE, ENDED_BY, in no order": (shuffled_ring("IBEFORE", "ENDED_BY"), CLASHING),
     "a ring by ENDS, ENDS, IAFTER": (ring("ENDS", "ENDS", "IAFTER"), CLASHING),
     "a ring by IAFTER, BEGUN_BY": (ring("IAFTER", "BEGUN_BY"), CLASHING),
+    "a ring by IAFTER, ENDS, SIMULTANEOUS": (ring("IAFTER", "ENDS", "SIMULTANEOUS"), CLASHING),
+    "a ring by IBEFORE, ENDED_BY, four times": (ring_four_times("IBEFORE", "ENDED_BY"), CLASHING),
+    "a key in a ring by IBEFORE, ENDED_BY": (key_in_a_ring("IBEFORE", "ENDED_BY"), ("score",)),
     "a ring of drawn relations": (random_ring, CLASHING),
     "a ring after a short clash": (ring_and_short(True), CLASHING),
     "a ring before a short clash": (ring_and_short(False), CLASHING),

@@ -110,6 +110,10 @@ class Terms:
     pairs: int
     """The points, for each of which all orders may be looked at, 64 at once."""
 
+    def units(self) -> float:
+        """Their sum, times a logarithm."""
+        return (self.read + self.answer + self.cited + self.pairs) * math.log2(self.read + self.answer)
+
     def growth(self, before: Terms, factor: float) -> float:
         """The greatest exponent of any of the numbers, where a size has become this many times as great."""
         pairs = [(self.read, before.read), (self.answer, before.answer), (self.cited, before.cited), (self.pairs, before.pairs)]

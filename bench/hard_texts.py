@@ -154,6 +154,10 @@ ACCEPTED: dict[str, tuple[Maker, tuple[str, ...]]] = {
     "tags of 8 attributes, long names": (tags_of(8, 30), ALL),
     "tags of 9 attributes": (tags_of(9, 1), ALL),
     "links of one instance": (many_links, ("check", "solve", "reduce", "relations")),
+    "a time of very many digits": (
+        stretched(b'<TimeML><TIMEX3 tid="t" type="DATE" value="P', b"1", b'"/></TimeML>'),
+        ("check", "dates", "canon"),
+    ),
     "times of all forms, and text": (text_of_times, ("check", "dates", "canon")),
 }
 FAULTY: dict[str, Maker] = {
