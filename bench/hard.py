@@ -9,8 +9,9 @@ program by callgrind (Debian's valgrind), their ratio, those of `tml` for each u
 and the exponent by which they grow with the size, next to the greatest exponent of a part of this sum. No run over an accepted
 document may take both more than 350 million instructions and more than three times those of the plain program, and none may grow
 faster than that sum. The last column says what is not kept: `count`, `growth` or `time`, or `alone` if there are more instructions
-than that and the plain program has no answer. If the programs disagree, it says `differs`, and the status is 1. Needs rustc in the
-PATH. Build `tml` first, as README.md says.
+than that and the plain program has no answer. If the programs disagree, it says `differs`, and the status is 1. Of a run that would
+take too long under callgrind the seconds of processor time are shown, and with `--seconds` of all. Needs rustc in the PATH. Build
+`tml` first, as README.md says.
 
 usage: bench/hard.py [OPTIONS] [SHAPE ..]       SHAPE is a name or a pattern such as 'a ring*' (all shapes if left out)
 """
@@ -32,16 +33,34 @@ import hard_evidence
 import hard_nets
 import hard_texts
 from by_hand import built
-from hard_runs import BY_HAND, FAULT, NOT_DONE, Files, Terms, instructions, run, says_the_same, terms
+from hard_runs import BY_HAND, FAULT, NOT_DONE, Files, Run, Terms, instructions, run, says_the_same, terms
 from hard_shapes import KIB, MIB, Case, Shape
 from measure import peak_memory, shown
 
 HERE = Path(__file__).resolve().parent
 MOST_MILLIONS, MOST_RATIO = 350, 3
+MILLIONS_A_SECOND = 4000
+"""About how many millions of instructions a second has, where they are not counted."""
 LEEWAY = 0.15
 """By how much the exponent may be above what is allowed, since all that is measured has a part that does not grow."""
+SLOWER = 40
+"""About how many times as long a run takes under callgrind."""
 DRILL = Shape("drill", lambda _: Case(b""), ("drill",), (256, 512, 1024))
 SHAPES = [*hard_nets.SHAPES, *hard_dates.SHAPES, *hard_texts.SHAPES, *hard_evidence.SHAPES, DRILL]
+
+
+@dataclass(frozen=True)
+class Measured:
+    """What a run takes: its seconds of processor time, if it came to its end, and its millions of instructions, if these were counted."""
+
+    seconds: float | None = None
+    millions: float | None = None
+
+    def times(self, other: Measured) -> float | None:
+        """How many times as much as another run it takes: by instructions, or else by seconds."""
+        if self.millions and other.millions:
+            return self.millions / other.millions
+        return self.seconds / other.seconds if self.seconds and other.seconds else None
 
 
 @dataclass(frozen=True)
@@ -51,9 +70,8 @@ class Row:
     shape: Shape
     command: str
     size: int
-    ours: float | None
-    """Millions of instructions, or milliseconds of processor time; None if there was not enough time."""
-    by_hand: float | None
+    ours: Measured
+    by_hand: Measured
     terms: Terms | None
     memory: int | None
     """Peak memory in KiB."""
@@ -67,33 +85,37 @@ class Measuring:
         self.chosen, self.plain = chosen, plain
 
     def rows(self, shape: Shape) -> list[Row]:
-        """The rows of a shape: of each command up to the first size that took too long."""
+        """The rows of a shape: of each command up to the first size at which it did not end in time."""
         rows: list[Row] = []
         commands = [command for command in shape.commands if command in (self.chosen.commands or shape.commands)]
         for size in sizes(shape, self.chosen.divide) if commands else ():
             with tempfile.TemporaryDirectory() as folder:
                 files = Files(Path(folder), shape.make(size))
-                slow = {row.command for row in rows if row.ours is None}
-                rows += [self.row(shape, command, size, files) for command in commands if command not in slow]
+                endless = {row.command for row in rows if row.ours.seconds is None}
+                rows += [self.row(shape, command, size, files) for command in commands if command not in endless]
         return sorted(rows, key=lambda row: (commands.index(row.command), row.size))
 
     def row(self, shape: Shape, command: str, size: int, files: Files) -> Row:
         """The row of a command over the files of a case."""
-        limit = self.chosen.timeout
-        words = files.words(self.chosen.tml, command, size, limit)
-        ours = run([self.chosen.tml, *words], limit)
+        words = files.words((self.plain, self.chosen.tml), command, size, self.chosen.timeout)
+        ours = run([self.chosen.tml, *words], self.chosen.timeout)
         if ours is None:
-            return Row(shape, command, size, None, None, None, None, False)
-        by_hand = run([self.plain, *words], limit) if command in BY_HAND else None
+            return Row(shape, command, size, Measured(), Measured(), None, None, False)
+        by_hand = run([self.plain, *words], self.chosen.timeout) if command in BY_HAND else None
         if by_hand is not None and by_hand.status == NOT_DONE:
             by_hand = None
         differs = by_hand is not None and not says_the_same(self.chosen.tml, words, ours, by_hand, files.folder)
-        if self.chosen.seconds:
-            counts = [ours.seconds * 1e3, by_hand.seconds * 1e3 if by_hand else None]
-        else:
-            counts = [instructions([self.chosen.tml, *words], limit), instructions([self.plain, *words], limit) if by_hand else None]
+        measured = [self.measured([program, *words], ended) for program, ended in ((self.chosen.tml, ours), (self.plain, by_hand))]
         memory = peak_memory([self.chosen.tml, *words]) if self.chosen.memory else None
-        return Row(shape, command, size, counts[0], counts[1], terms(self.plain, words, ours), memory, differs)
+        return Row(shape, command, size, measured[0], measured[1], terms(self.plain, words, ours), memory, differs)
+
+    def measured(self, words: list[str], ended: Run | None) -> Measured:
+        """What a run takes. Its instructions are counted only if there is enough time for that."""
+        if ended is None:
+            return Measured()
+        if self.chosen.seconds or ended.seconds * SLOWER > self.chosen.timeout:
+            return Measured(ended.seconds)
+        return Measured(ended.seconds, instructions(words, self.chosen.timeout))
 
 
 def sizes(shape: Shape, divide: int) -> list[int]:
@@ -103,21 +125,22 @@ def sizes(shape: Shape, divide: int) -> list[int]:
 
 def growth(row: Row, before: Row | None) -> tuple[float | None, float | None]:
     """The exponent by which a row has grown from the one before it, and the one by which it may."""
-    if before is None or row.ours is None or not before.ours or row.terms is None or before.terms is None:
+    if before is None or row.terms is None or before.terms is None:
         return None, None
-    factor = row.size / before.size
-    return math.log(row.ours / before.ours) / math.log(factor), row.terms.growth(before.terms, factor)
+    times, factor = row.ours.times(before.ours), row.size / before.size
+    return times and math.log(times) / math.log(factor), row.terms.growth(before.terms, factor)
 
 
-def breaches(row: Row, before: Row | None, count: float) -> str:
-    """What a row does not keep, where so many millions are allowed."""
-    found = ["differs"] if row.differs else []
-    if row.ours is None:
+def breaches(row: Row, before: Row | None) -> str:
+    """What a row does not keep."""
+    if row.ours.seconds is None:
         return "time"
-    if row.ours > count and not row.shape.faulty:
-        if row.by_hand is None:
+    found = ["differs"] if row.differs else []
+    ratio = row.ours.times(row.by_hand)
+    if (row.ours.millions or row.ours.seconds * MILLIONS_A_SECOND) > MOST_MILLIONS and not row.shape.faulty:
+        if ratio is None:
             found.append("alone")
-        elif row.ours > MOST_RATIO * row.by_hand:
+        elif ratio > MOST_RATIO:
             found.append("count")
     grown, allowed = growth(row, before)
     if grown is not None and allowed is not None and grown > allowed + LEEWAY:
@@ -132,14 +155,20 @@ def size_text(shape: Shape, size: int) -> str:
     return f"{size // MIB} MiB" if size % MIB == 0 else f"{size // KIB} KiB"
 
 
-def line(row: Row, before: Row | None, limit: float, count: float) -> str:
+def taken(measured: Measured, limit: float) -> str:
+    """What a run takes, as it is shown: in millions of instructions, or else in seconds."""
+    if measured.millions is not None:
+        return f"{measured.millions:.1f}"
+    return f"> {limit:.0f} s" if measured.seconds is None else f"{measured.seconds:.3f} s"
+
+
+def line(row: Row, before: Row | None, limit: float) -> str:
     """The line of a row."""
-    ours = f"> {limit:.0f} s" if row.ours is None else f"{row.ours:.1f}"
-    ratio = row.ours / row.by_hand if row.ours and row.by_hand else None
     grown, allowed = growth(row, before)
-    columns = [row.shape.name, f"`{row.command}`", size_text(row.shape, row.size), ours, shown(row.by_hand, ".1f"), shown(ratio, ".2f")]
-    per_unit = row.ours * 1e6 / row.terms.units() if row.ours and row.terms else None
-    columns += [shown(per_unit, ".2f"), shown(grown, ".2f"), shown(allowed, ".2f"), breaches(row, before, count)]
+    per_unit = row.ours.millions * 1e6 / row.terms.units() if row.ours.millions and row.terms else None
+    columns = [row.shape.name, f"`{row.command}`", size_text(row.shape, row.size), taken(row.ours, limit)]
+    columns += ["" if row.by_hand == Measured() else taken(row.by_hand, limit), shown(row.ours.times(row.by_hand), ".2f")]
+    columns += [shown(per_unit, ".2f"), shown(grown, ".2f"), shown(allowed, ".2f"), breaches(row, before)]
     columns += [] if row.memory is None else [f"{row.memory / KIB:.1f}"]
     return f"| {' | '.join(columns)} |"
 
@@ -149,14 +178,14 @@ def lines(rows: list[Row], chosen: argparse.Namespace) -> Iterator[str]:
     before: Row | None = None
     for row in rows:
         before = before if before is not None and before.command == row.command else None
-        if not chosen.breaches or breaches(row, before, chosen.count):
-            yield line(row, before, chosen.timeout, chosen.count)
+        if not chosen.breaches or breaches(row, before):
+            yield line(row, before, chosen.timeout)
         before = row
 
 
-def heads(unit: str, memory: bool) -> list[str]:
+def heads(memory: bool) -> list[str]:
     """The first lines of the table."""
-    names = ["shape", "command", "size", f"`tml`, {unit}", "by hand", "ratio", "a unit", "growth", "allowed", "over"]
+    names = ["shape", "command", "size", "`tml`, millions", "by hand", "ratio", "a unit", "growth", "allowed", "over"]
     rules = ["---"] * 2 + ["--:"] * 7 + ["---"]
     if memory:
         names.append("MiB")
@@ -185,18 +214,15 @@ def arguments() -> argparse.Namespace:
     parser.add_argument("--plain", help="the program by hand, if it is built already")
     parser.add_argument("--commands", type=lambda text: text.split(","), help="commands to measure, with commas between them")
     parser.add_argument("--divide", type=int, default=1, metavar="N", help="make each size the N-th part")
-    parser.add_argument("--seconds", action="store_true", help="measure milliseconds of processor time, and not instructions")
-    parser.add_argument("--timeout", type=float, metavar="S", help="the seconds that a run may take (60, or 900 with callgrind)")
+    parser.add_argument("--seconds", action="store_true", help="measure seconds of processor time, and count no instructions")
+    parser.add_argument("--timeout", type=float, default=60, metavar="S", help="the seconds that a run may take, also under callgrind (60)")
     parser.add_argument("--jobs", type=int, default=1, metavar="N", help="how many shapes are measured at once")
     parser.add_argument("--memory", action="store_true", help="add the peak memory of tml, in MiB")
     parser.add_argument("--breaches", action="store_true", help="print only what does not keep the limits")
     parser.add_argument("--accepted", action="store_true", help="only query whether `tml check` accepts the documents")
     parser.add_argument("--list", action="store_true", help="only list the shapes and their commands")
     parser.add_argument("shapes", nargs="*", metavar="SHAPE", help="the name of a shape, or a pattern")
-    chosen = parser.parse_args()
-    chosen.timeout = chosen.timeout or (60 if chosen.seconds else 900)
-    chosen.count = math.inf if chosen.seconds else MOST_MILLIONS
-    return chosen
+    return parser.parse_args()
 
 
 def main() -> int:
@@ -212,7 +238,7 @@ def main() -> int:
     differ = False
     with tempfile.TemporaryDirectory() as folder, ThreadPoolExecutor(chosen.jobs) as pool:
         measuring = Measuring(chosen, chosen.plain or built(Path(folder)))
-        print("\n".join(heads("ms" if chosen.seconds else "millions", chosen.memory)))
+        print("\n".join(heads(chosen.memory)))
         for rows in pool.map(measuring.rows, shapes):
             for text in lines(rows, chosen):
                 print(text, flush=True)

@@ -7,8 +7,8 @@ import os
 import re
 import subprocess
 import tempfile
-import threading
 from collections import Counter
+from collections.abc import Sequence
 from dataclasses import dataclass
 from pathlib import Path
 
@@ -37,14 +37,16 @@ class Run:
     seconds: float
 
 
+def limited(words: list[str], limit: float) -> list[str]:
+    """A command that ends by a signal after this many seconds of processor time."""
+    return ["prlimit", f"--cpu={math.ceil(limit)}", *words]
+
+
 def run(words: list[str], limit: float) -> Run | None:
     """A run, or None if it took longer than this many seconds."""
     with tempfile.TemporaryFile() as told:
-        child = subprocess.Popen(words, stdin=NULL, stdout=told, stderr=NULL)
-        timer = threading.Timer(limit, child.kill)
-        timer.start()
+        child = subprocess.Popen(limited(words, limit), stdin=NULL, stdout=told, stderr=NULL)
         _, status, usage = os.wait4(child.pid, 0)
-        timer.cancel()
         child.returncode = os.waitstatus_to_exitcode(status)
         if child.returncode < 0:
             return None
@@ -54,14 +56,11 @@ def run(words: list[str], limit: float) -> Run | None:
 
 def instructions(words: list[str], limit: float) -> float | None:
     """The millions of instructions of a run by callgrind, or None if it took longer than this many seconds."""
-    callgrind = ["valgrind", "--tool=callgrind", "--callgrind-out-file=/dev/null", *words]
-    try:
-        told = subprocess.run(callgrind, stdin=NULL, stdout=NULL, stderr=subprocess.PIPE, text=True, check=False, timeout=limit).stderr
-    except subprocess.TimeoutExpired:
+    callgrind = limited(["valgrind", "--tool=callgrind", "--callgrind-out-file=/dev/null", *words], limit)
+    child = subprocess.run(callgrind, stdin=NULL, stdout=NULL, stderr=subprocess.PIPE, text=True, check=False)
+    collected = re.search(r"Collected : (\d+)", child.stderr)
+    if child.returncode < 0 or collected is None:
         return None
-    collected = re.search(r"Collected : (\d+)", told)
-    if collected is None:
-        raise RuntimeError(f"{' '.join(words)}: callgrind counted nothing: {told}")
     return int(collected[1]) / 1e6
 
 
@@ -75,8 +74,8 @@ class Files:
         if case.other is not None:
             (folder / "other").write_bytes(case.other)
 
-    def words(self, tml: str, command: str, size: int, limit: float) -> list[str]:
-        """The command and its arguments. What an earlier command has to print is printed by `tml`."""
+    def words(self, programs: Sequence[str], command: str, size: int, limit: float) -> list[str]:
+        """The command and its arguments. What another command has to print is printed by the first of these programs that does it."""
         document, other, half = (str(self.folder / name) for name in ("document", "other", "half"))
         first, relation, last = self.case.asked
         if command == "drill":
@@ -92,8 +91,8 @@ class Files:
         if self.case.other is None and command == "score":
             return [command, document, document]
         if self.case.other is None:
-            made = run([tml, PRINTED_BY[command], document], limit)
-            Path(other).write_bytes(made.text if made else b"")
+            made = (run([program, PRINTED_BY[command], document], limit) for program in programs)
+            Path(other).write_bytes(next((done.text for done in made if done and done.status != NOT_DONE), b""))
         return [command, document, other]
 
 

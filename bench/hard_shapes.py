@@ -21,7 +21,7 @@ class Case:
     document: bytes
     """The document. `drill` reads none."""
     other: bytes | None = None
-    """The key, evidence or seconds. If there is none, the key is the document, and the rest is what `tml` prints of it."""
+    """The key, evidence or seconds. If there is none, the key is the document, and the rest is what is printed of it."""
     second: bytes = b""
     """The second evidence of `join`."""
     asked: tuple[str, str, str] = ("", "", "")
