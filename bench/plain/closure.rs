@@ -17,11 +17,11 @@ pub type Half<'a> = &'a [u64];
 
 impl Rows {
     /// A row for each component, with its own points.
-    fn own(components: &Components) -> Rows {
-        let half = (components.of.len() / 2).div_ceil(64);
+    fn own(components: &Components, points: usize) -> Rows {
+        let half = (points / 2).div_ceil(64);
         let words = 2 * half * components.count();
         let mut rows = Rows { half, weak: vec![0; words], strict: vec![0; words] };
-        for (point, &component) in components.of.iter().enumerate() {
+        for (point, &component) in components.of[..points].iter().enumerate() {
             let (word, bit) = rows.place(component as usize, point as u16);
             rows.weak[word] |= 1 << bit;
         }
@@ -30,12 +30,12 @@ impl Rows {
 
     /// What is after each component: those that its orders lead to come first.
     pub fn after(components: &Components, graph: &Graph) -> Rows {
-        let mut rows = Rows::own(components);
+        let mut rows = Rows::own(components, graph.points);
         for component in 0..components.count() {
             for &point in components.members(component) {
                 for order in graph.from(point) {
                     let other = components.of[order.second as usize] as usize;
-                    if other != component && !rows.has(component, order.second, order.strict) {
+                    if other != component && (order.second as usize >= graph.points || !rows.has(component, order.second, order.strict)) {
                         rows.join(component, other, order.strict);
                     }
                 }
@@ -46,12 +46,12 @@ impl Rows {
 
     /// What is before each component: each is told to those that its orders lead to.
     pub fn before(components: &Components, graph: &Graph) -> Rows {
-        let mut rows = Rows::own(components);
+        let mut rows = Rows::own(components, graph.points);
         for component in (0..components.count()).rev() {
             for &point in components.members(component) {
                 for order in graph.from(point) {
                     let other = components.of[order.second as usize] as usize;
-                    if other != component && !rows.has(other, point, order.strict) {
+                    if other != component && (point as usize >= graph.points || !rows.has(other, point, order.strict)) {
                         rows.join(other, component, order.strict);
                     }
                 }

@@ -7,6 +7,7 @@ use crate::names::Table;
 use crate::profile::{Kind as TagKind, Rule, MOST_FIELDS};
 use crate::source::{Source, Span};
 use crate::units::{cut, is, Attribute, Tag, Unit, Visitor, SPACE};
+use crate::dates::{bounds, Bounds};
 use crate::values::date;
 use crate::{Fault, Kind};
 
@@ -53,6 +54,8 @@ pub struct Judge<'a> {
     references: Vec<Mention>,
     pub intervals: Vec<Span>,
     pub links: Vec<Link>,
+    /// The times that the calendar places, by their intervals.
+    pub times: Vec<(u16, Bounds)>,
     /// Whether some time has a date or a length.
     pub has_times: bool,
 }
@@ -69,7 +72,7 @@ impl<'a> Judge<'a> {
         Judge {
             source, open: Vec::with_capacity(MOST_OPEN), doctype_seen: false, tag_seen: false, nesting_fault: None, typing_fault: None,
             limit_fault: None, counts: [0; 9], identifiers: Vec::new(), references: Vec::new(), intervals: Vec::new(),
-            links: Vec::new(), has_times: false,
+            links: Vec::new(), times: Vec::new(), has_times: false,
         }
     }
 
@@ -181,6 +184,8 @@ impl<'a> Judge<'a> {
             if found == Some(false) {
                 return Err(Kind::BadDate);
             }
+            let place = found.and_then(|_| bounds(self.source.text(values.spans[1]), self.source.text(values.spans[3]), value));
+            self.times.extend(place.map(|bounds| (self.intervals.len() as u16, bounds)));
             self.has_times |= found.is_some() || matches!(value, [b'P', b'0'..=b'9' | b'X' | b'T', ..]);
         }
         self.count(kind, place, values);

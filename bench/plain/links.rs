@@ -1,8 +1,9 @@
-//! The commands `reduce` and `score`, of documents whose times have no dates: a link is left out where the others give its
+//! The commands `reduce` and `score`: a link is left out where the others give its
 //! orders.
 
 #![cfg_attr(rustfmt, rustfmt_skip)]
 
+use crate::calendar::CALENDAR;
 use crate::check::push_link;
 use crate::closure::Closure;
 use crate::judge::Judged;
@@ -41,7 +42,7 @@ impl Reduction<'_> {
 
     #[inline(always)]
     fn is_kept(&self, order: &Order) -> bool {
-        order.link == SPAN || !self.left_out[order.link as usize]
+        order.link >= CALENDAR || !self.left_out[order.link as usize]
     }
 
     /// Whether an order follows without the links that are left out.
@@ -91,7 +92,7 @@ impl Reduction<'_> {
 fn reduced(net: &Net, graph: &Graph) -> Result<(Closure, Vec<u16>), Order> {
     let closure = Closure::of(Components::of(graph)?, graph);
     let reduction = Reduction {
-        net, graph, closure: &closure, left_out: vec![false; net.links.len()], met: vec![0; net.points()], searches: 0, queue: Vec::new(),
+        net, graph, closure: &closure, left_out: vec![false; net.links.len()], met: vec![0; graph.nodes()], searches: 0, queue: Vec::new(),
     };
     let kept = reduction.kept();
     Ok((closure, kept))

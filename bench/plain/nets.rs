@@ -1,7 +1,8 @@
-//! The net of a document whose times have no dates: its points, ordered by spans and links, and the components of these.
+//! The net of a document: its points, ordered by spans, links and the calendar, and the components of these.
 
 #![cfg_attr(rustfmt, rustfmt_skip)]
 
+use crate::calendar::Calendar;
 use crate::judge::Judged;
 
 /// Points of two intervals: the start and the end of the first one, and those of the second.
@@ -67,11 +68,12 @@ impl NetLink {
     }
 }
 
-/// So many intervals and the links between them.
+/// So many intervals, the links between them, and the orders of their dates.
 #[derive(Clone)]
 pub struct Net {
     pub intervals: usize,
     pub links: Vec<NetLink>,
+    pub calendar: Calendar,
 }
 
 impl Net {
@@ -79,7 +81,8 @@ impl Net {
         let (source, judge) = (document.judge.source, &document.judge);
         let number = |name| document.table.find(source, name).interval;
         let link = |link: &crate::judge::Link| NetLink { left: number(link.left), relation: link.relation, right: number(link.right) };
-        Net { intervals: judge.intervals.len(), links: judge.links.iter().map(link).collect() }
+        let intervals = judge.intervals.len();
+        Net { intervals, links: judge.links.iter().map(link).collect(), calendar: Calendar::of(&judge.times, 2 * intervals) }
     }
 
     pub fn points(&self) -> usize {
@@ -87,8 +90,9 @@ impl Net {
     }
 }
 
-/// The orders of a net, those from each point one after another.
+/// The orders of a net, those from each point one after another. The nodes of the calendar come after the points.
 pub struct Graph {
+    pub points: usize,
     pub begins: Vec<u32>,
     pub orders: Vec<Order>,
 }
@@ -100,17 +104,19 @@ impl Graph {
 
     /// That of some links, by their numbers.
     pub fn of_links(net: &Net, links: impl Iterator<Item = u16> + Clone) -> Graph {
-        let mut begins = vec![0u32; net.points() + 2];
+        let nodes = net.points() + net.calendar.nodes;
+        let mut begins = vec![0u32; nodes + 2];
         for start in (0..net.points()).step_by(2) {
             begins[start + 2] = 1;
         }
-        let orders = || links.clone().flat_map(|number| net.links[number as usize].orders(number));
+        let of_links = || links.clone().flat_map(|number| net.links[number as usize].orders(number));
+        let orders = || of_links().chain(net.calendar.orders.iter().copied());
         orders().for_each(|order| begins[order.first as usize + 2] += 1);
         for point in 2..begins.len() {
             begins[point] += begins[point - 1];
         }
         let none = Order { first: 0, second: 0, link: SPAN, nth: 0, strict: true };
-        let mut placed = vec![none; begins[net.points() + 1] as usize];
+        let mut placed = vec![none; begins[nodes + 1] as usize];
         let spans = (0..net.points() as u16).step_by(2).map(|first| Order { first, second: first + 1, ..none });
         for order in spans.chain(orders()) {
             let next = &mut begins[order.first as usize + 1];
@@ -118,7 +124,12 @@ impl Graph {
             *next += 1;
         }
         begins.pop();
-        Graph { begins, orders: placed }
+        Graph { points: net.points(), begins, orders: placed }
+    }
+
+    /// How many points and nodes of the calendar there are.
+    pub fn nodes(&self) -> usize {
+        self.begins.len() - 1
     }
 
     #[inline(always)]
@@ -141,7 +152,7 @@ const NONE: u16 = u16::MAX;
 impl Components {
     /// The components of a graph, or a strict order inside of one.
     pub fn of(graph: &Graph) -> Result<Components, Order> {
-        let points = graph.begins.len() - 1;
+        let points = graph.nodes();
         let mut search = Search {
             graph, number: vec![0; points], next: 0, path: Vec::with_capacity(points),
             found: Components { of: vec![NONE; points], members: Vec::with_capacity(points), begins: vec![0] },
@@ -178,7 +189,7 @@ impl Components {
                 *other = (*other).max(rank + u16::from(order.strict));
             }
         }
-        self.of.iter().map(|&component| ranks[component as usize]).collect()
+        self.of[..graph.points].iter().map(|&component| ranks[component as usize]).collect()
     }
 }
 

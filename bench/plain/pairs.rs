@@ -1,4 +1,4 @@
-//! The commands `relations` and `matrix`, of documents whose times have no dates: what is known of each two intervals, in
+//! The commands `relations` and `matrix`: what is known of each two intervals, in
 //! words of which each bit is the second interval.
 
 #![cfg_attr(rustfmt, rustfmt_skip)]
@@ -27,7 +27,7 @@ struct Pairs {
 impl Pairs {
     fn of(components: Components, graph: &Graph) -> Pairs {
         let (after, before) = (Rows::after(&components, graph), Rows::before(&components, graph));
-        let half = (components.of.len() / 2).div_ceil(64);
+        let half = (graph.points / 2).div_ceil(64);
         Pairs { components, after, before, half }
     }
 

@@ -1,13 +1,15 @@
 //! Commands of `tml` written by hand: ordinary Rust that cares for speed, without proofs, to measure what these cost. It
 //! prints the same bytes and ends with the same status, but for which clash, cycle and placing it prints. The rules are those
-//! of docs/DEFINITIONS.md. What comes after `check` it says only of documents whose times have no dates and no lengths.
+//! of docs/DEFINITIONS.md. Seconds it says only of documents whose times have no dates and no lengths.
 //! bench/by_hand.py builds it for bench/beside.py and others.
 
 #![cfg_attr(rustfmt, rustfmt_skip)]
 
+mod calendar;
 mod canon;
 mod check;
 mod closure;
+mod dates;
 mod judge;
 mod links;
 mod names;
@@ -72,10 +74,14 @@ fn read(name: &OsStr) -> io::Result<Vec<u8>> {
 const USAGE: &[u8] = b"usage:\nplain spans DOC\nplain check DOC\nplain canon DOC\nplain solve DOC\nplain relations DOC\nplain matrix DOC\n\
     plain possible DOC X Y\nplain reduce DOC\nplain score DOC KEY\nplain seconds DOC\n";
 
-/// What is said of a net, where the document has one without times that are dates or have lengths.
+/// What is said of the net of a document.
 fn of_net(source: Source, says: impl FnOnce(&Judged) -> Answer) -> Result<Answer, Fault> {
-    let document = judged(source)?;
-    Ok(if document.judge.has_times { (NOT_DONE, b"not done\n".to_vec()) } else { says(&document) })
+    judged(source).map(|document| says(&document))
+}
+
+/// A placing, if no time is a date or has a length.
+fn seconds(document: &Judged) -> Answer {
+    if document.judge.has_times { (NOT_DONE, b"not done\n".to_vec()) } else { seconds::seconds(document) }
 }
 
 /// The relations that are possible between two intervals, where both names are those of intervals.
@@ -91,7 +97,7 @@ fn possible(document: &Judged, first: &OsStr, second: &OsStr) -> Answer {
 fn score(document: &Judged, key: &OsStr) -> Answer {
     let mut bytes = read(key).unwrap_or_default();
     match judged(Source::new(&mut bytes)) {
-        Ok(key) if !key.judge.has_times => links::score(document, &key),
+        Ok(key) => links::score(document, &key),
         _ => (NOT_DONE, b"not done\n".to_vec()),
     }
 }
@@ -107,7 +113,7 @@ fn answer_over(words: &[&OsStr], source: Source) -> Option<Result<Answer, Fault>
         ("relations", []) => of_net(source, pairs::relations),
         ("matrix", []) => of_net(source, pairs::matrix),
         ("reduce", []) => of_net(source, links::reduce),
-        ("seconds", []) => of_net(source, seconds::seconds),
+        ("seconds", []) => of_net(source, seconds),
         ("score", [key]) => of_net(source, |document| score(document, key)),
         ("possible", [first, second]) => of_net(source, |document| possible(document, first, second)),
         _ => return None,

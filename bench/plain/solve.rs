@@ -1,10 +1,11 @@
-//! The command `solve`, of documents whose times have no dates: the least timeline, or a minimal clash. One clash is
+//! The command `solve`: the least timeline, or a minimal clash. One clash is
 //! taken from a short walk, so that it has few links.
 
 #![cfg_attr(rustfmt, rustfmt_skip)]
 
 use std::collections::VecDeque;
 
+use crate::calendar::CALENDAR;
 use crate::judge::Judged;
 use crate::nets::{Components, Graph, Net, Order, SPAN};
 use crate::print::push_number;
@@ -28,7 +29,7 @@ pub fn push_ranks(out: &mut Vec<u8>, ranks: &[u16]) {
 
 /// A short closed walk, as a strict order of a component and the way back to it.
 pub fn closed_walk(graph: &Graph, strict: Order) -> Vec<Order> {
-    let points = graph.begins.len() - 1;
+    let points = graph.nodes();
     let mut came: Vec<Option<Order>> = vec![None; points];
     let mut queue = VecDeque::from([strict.second]);
     while came[strict.first as usize].is_none() && strict.first != strict.second {
@@ -48,12 +49,27 @@ pub fn closed_walk(graph: &Graph, strict: Order) -> Vec<Order> {
         point = order.first;
     }
     walk[1..].reverse();
-    walk
+    over_points(graph.points, walk)
+}
+
+/// The same closed walk without the nodes of the calendar, from a point on.
+fn over_points(points: usize, mut walk: Vec<Order>) -> Vec<Order> {
+    let is_point = |node: u16| (node as usize) < points;
+    let from = walk.iter().position(|order| is_point(order.first)).unwrap_or(0);
+    walk.rotate_left(from);
+    let mut steps: Vec<Order> = Vec::with_capacity(walk.len());
+    for order in walk {
+        match steps.last_mut() {
+            Some(last) if !is_point(last.second) => last.second = order.second,
+            _ => steps.push(order),
+        }
+    }
+    steps
 }
 
 /// The numbers of the links of a walk, rising.
 fn cited(walk: &[Order]) -> Vec<u16> {
-    let mut links: Vec<u16> = walk.iter().map(|order| order.link).filter(|&link| link != SPAN).collect();
+    let mut links: Vec<u16> = walk.iter().map(|order| order.link).filter(|&link| link < CALENDAR).collect();
     links.sort_unstable();
     links.dedup();
     links
@@ -88,6 +104,10 @@ fn push_order(out: &mut Vec<u8>, order: &Order) {
     if order.link == SPAN {
         out.extend_from_slice(b"span ");
         push_number(out, order.first as usize / 2, b'\n');
+    } else if order.link == CALENDAR {
+        out.extend_from_slice(b"calendar ");
+        push_number(out, order.first as usize, b' ');
+        push_number(out, order.second as usize, b'\n');
     } else {
         out.extend_from_slice(b"via ");
         push_number(out, order.link as usize, b' ');

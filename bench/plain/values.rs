@@ -30,11 +30,11 @@ fn years(field: &[u8]) -> Option<RangeInclusive<u32>> {
     Some(first.max(1)..=first + width - 1)
 }
 
-fn is_leap(year: u32) -> bool {
+pub fn is_leap(year: u32) -> bool {
     year % 4 == 0 && (year % 100 != 0 || year % 400 == 0)
 }
 
-fn days_of_month(year: u32, month: u32) -> u32 {
+pub fn days_of_month(year: u32, month: u32) -> u32 {
     match month {
         2 => 28 + u32::from(is_leap(year)),
         4 | 6 | 9 | 11 => 30,
