@@ -260,6 +260,14 @@ class Replies(unittest.TestCase):
             with self.subTest(words=words, status=status, text=text):
                 self.assertEqual(refusal(words, status, text.encode(), 9) is None, believed)
 
+    def test_no_reply_that_ends_within_a_line_is_believed(self) -> None:
+        matrix = (["matrix", "-"], 0, "a b BEFORE AFTER\na c ENDS\n", True)
+        for words, status, text, _ in (*self.rows_of_replies(), matrix):
+            for end in range(1, len(text)):
+                if text[end - 1] != "\n" and words[0] != "canon":
+                    with self.subTest(words=words, text=text[:end]):
+                        self.assertIsNotNone(refusal(words, status, text[:end].encode(), 9))
+
     def test_no_number_that_cannot_be_read_is_believed(self) -> None:
         for words, status, text, _ in self.rows_of_replies():
             # Of the lines of renewed evidence no number is read.

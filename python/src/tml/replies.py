@@ -11,6 +11,10 @@ from collections.abc import Callable, Mapping, Sequence
 
 from .statuses import FAULT_NAMES, RELATIONS, TmlStatus
 
+LINE = rb"(?<![^\n])"
+"""The beginning of a line, or the end of the text. It follows each repetition of lines that is not looked at again: Python 3.11.2 lets such
+a repetition end in the middle of a line."""
+
 NAME = rb"[A-Za-z0-9_.-]{1,64}"
 RELATION = "|".join(RELATIONS).encode()
 NUMBER = rb"\d{1,19}"
@@ -18,8 +22,8 @@ NUMBER = rb"\d{1,19}"
 
 COUNTED_TAGS = (b"events", b"instances", b"timex", b"signals", b"tlinks", b"alinks", b"slinks")
 COUNTS = b"".join(rb"%s (%s)\n" % (name, NUMBER) for name in COUNTED_TAGS)
-LINKS = rb"(?:tlink %s %s (?:%s) %s\n)*+" % (NUMBER, NAME, RELATION, NAME)
-ACCEPTED = rb"accepted\n%s((?:interval %s %s\n)*+)(%s)" % (COUNTS, NUMBER, NAME, LINKS)
+LINKS = rb"(?:tlink %s %s (?:%s) %s\n)*+%s" % (NUMBER, NAME, RELATION, NAME, LINE)
+ACCEPTED = rb"accepted\n%s((?:interval %s %s\n)*+)%s(%s)" % (COUNTS, NUMBER, NAME, LINE, LINKS)
 FAULT = rb"fault (\d{1,2}) (\w+) (\d{1,7})\n"
 
 EVIDENCE = rb"tml-evidence (?:1|2\nclaims 1)\n"
@@ -33,25 +37,25 @@ NUMBERS = rb"(?: %s)*" % NUMBER
 TO_THE_END = rb"(?:[a-z]++%s\n)++(?<=\nend\n)" % NUMBERS
 """The further lines of one claim. Where texts may be long, nothing that was matched is looked at again, which would take much memory."""
 
-PART = rb"relation (?:%s)\ntimeline %s\n(?:at %s %s\n)*+" % (RELATION, NUMBER, NUMBER, NUMBER)
+PART = rb"relation (?:%s)\ntimeline %s\n(?:at %s %s\n)*+%s" % (RELATION, NUMBER, NUMBER, NUMBER, LINE)
 CLAIM = rb"verified (?:timeline|(?:entails|counter) %s (?:%s) %s|clash%s)\n" % (NAME, RELATION, NAME, NUMBERS)
 
 SECOND = rb"-?%s" % NUMBER
 CIVIL = rb"[\dT:-]{1,20}"
 
 DONE = {
-    "dates": rb"(?:%s (?:free|(?:exact|within) %s %s %s %s)\n)*+" % (NAME, SECOND, SECOND, CIVIL, CIVIL),
+    "dates": rb"(?:%s (?:free|(?:exact|within) %s %s %s %s)\n)*+%s" % (NAME, SECOND, SECOND, CIVIL, CIVIL, LINE),
     "solve": EVIDENCE + rb"timeline %s\n%s" % (NUMBER, TO_THE_END),
-    "relations": rb"(?:%s (?:%s) %s\n)*+" % (NAME, RELATION, NAME),
+    "relations": rb"(?:%s (?:%s) %s\n)*+%s" % (NAME, RELATION, NAME, LINE),
     "canon": rb"<(?s:.*)\n",
-    "verify": rb"(?:%s)++" % CLAIM,
+    "verify": rb"(?:%s)++%s" % (CLAIM, LINE),
     "reduce": rb"reduced (%s) of (%s)\n(%s)" % (NUMBER, NUMBER, LINKS),
     "score": rb"precision (%s) of (%s)\nrecall (%s) of (%s)\n" % ((NUMBER,) * 4),
-    "seconds": rb"tml-seconds 1\nplacing (%s)\n((?:at %s %s\n)*+)end\n" % (NUMBER, SECOND, SECOND),
+    "seconds": rb"tml-seconds 1\nplacing (%s)\n((?:at %s %s\n)*+)%send\n" % (NUMBER, SECOND, SECOND, LINE),
     "confirm": rb"confirmed (?:placing|cycle)\n",
     "ask": EVIDENCE + rb"(?:entails|counter) %s (?:%s) %s\n%s" % (NUMBER, RELATION, NUMBER, TO_THE_END),
-    "possible": rb"possible (%s)\n((?:%s)++)" % (NUMBER, PART),
-    "matrix": rb"(?:%s %s(?: (?:%s))+\n)*+" % (NAME, NAME, RELATION),
+    "possible": rb"possible (%s)\n((?:%s)+)" % (NUMBER, PART),
+    "matrix": rb"(?:%s %s(?: (?:%s))+\n)*+%s" % (NAME, NAME, RELATION, LINE),
     "renew": CLAIMS,
     "join": CLAIMS,
     "drill": rb"drill %s\nbytes %s\nlinks %s\ngreatest %s\nrelations %s\nverified timeline\n" % ((NUMBER,) * 5),
@@ -61,7 +65,7 @@ DONE = {
 OF_KEY = b"key "
 """What stands before a line of `score` that is about its second document."""
 
-CYCLE = rb"tml-seconds 1\ncycle (%s)\n((?:(?:via %s|span|lower|upper|least|most) %s\n)++)end\n" % ((NUMBER,) * 3)
+CYCLE = rb"tml-seconds 1\ncycle (%s)\n((?:(?:via %s|span|lower|upper|least|most) %s\n)++)%send\n" % (*(NUMBER,) * 3, LINE)
 """What `seconds` answers where there is no placing."""
 
 OF_NETS = ("solve", "relations", "matrix", "reduce", "score", "ask", "possible")
