@@ -9,12 +9,12 @@ ghost use Rattle.net_core.specs.declared.step.Step.{Step as StepOf};
 ghost use Rattle.std.specs.Prelude.{IfNone, IfOk, IfSome, List as ListOf, OnOk, false, length, ℕ, ◌*◌, ◌<◌, ◌≡◌, ◌≢◌, ◌≤◌};
 
 use net_core::{Atom, List, Memory, Net, Ranks, Walk, mark_steps};
-use net_orders::{Order, atoms_of_link, nth_order, orders_of, settle};
+use net_orders::{Order, atoms_of_link, nth_order, orders_of, settle_without};
 use std::alloc::Global;
 use walks::walk;
 
-/// How many turns ranks are given to settle without a link: without nearly all that are needed they do so in three.
-pub const TURNS: u32 = 8;
+/// How many turns more ranks are given to settle where a sequence that serves was not enough.
+pub const TURNS: u32 = 0;
 
 /// A walk from a point to itself with a strict step, a mark for each link that it goes over, and the orders that its steps
 /// are over.
@@ -55,7 +55,14 @@ impl ClosedWalk {
         ensures none { IfOk result (λ found. IfNone found (turns ≡ u32.MAX → IsSpared net.now (Kept self.now.over.items) omitted → ⊥)) }
     {
         let mut ranks = vec![in alloc; 0u32; 2 * net.intervals() as usize]?;
-        if settle(self.orders.as_slice(), fixed, omitted, &mut ranks, turns) {
+        if settle_without(
+            alloc,
+            self.orders.as_slice(),
+            fixed,
+            omitted,
+            &mut ranks,
+            turns,
+        )? {
             Ok(Some(Ranks::from_vec(ranks)))
         } else {
             Ok(None)
