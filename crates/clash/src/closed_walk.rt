@@ -1,6 +1,6 @@
 //! Closed walks, and the links that they go over.
 ghost use Rattle.clash.specs.Minimal.{IsMarkedWalk, IsSpared};
-ghost use Rattle.net_orders.specs.Orders.{AreFixed};
+ghost use Rattle.net_orders.specs.Milestones.{AreWithMilestones};
 ghost use Rattle.net_core.specs.Fits.{EveryLink};
 ghost use Rattle.net_core.specs.Least.{IsSpare};
 ghost use Rattle.net_core.specs.Nets.{points};
@@ -50,11 +50,12 @@ impl ClosedWalk {
         turns: u32,
     ) -> Result<Option<Ranks>, Memory>
         requires closed { IsMarkedWalk net.now self.now }
-        requires fixed { AreFixed net.now fixed.now }
+        requires fixed { AreWithMilestones net.now fixed.now }
         ensures some { IfOk result (λ found. IfSome found (IsSpare net.now (Kept self.now.over.items) omitted)) }
         ensures none { IfOk result (λ found. IfNone found (turns ≡ u32.MAX → IsSpared net.now (Kept self.now.over.items) omitted → ⊥)) }
     {
-        let mut ranks = vec![in alloc; 0u32; 2 * net.intervals() as usize]?;
+        let points = 2 * net.intervals() as usize;
+        let mut ranks = vec![in alloc; 0u32; 2 * points]?;
         if settle_without(
             alloc,
             self.orders.as_slice(),
@@ -63,6 +64,7 @@ impl ClosedWalk {
             &mut ranks,
             turns,
         )? {
+            ranks.truncate(points);
             Ok(Some(Ranks::from_vec(ranks)))
         } else {
             Ok(None)
@@ -80,7 +82,7 @@ impl ClosedWalk {
         needed: u32,
     ) -> Result<(), Memory>
         requires closed { IsMarkedWalk net.now self.old }
-        requires fixed { AreFixed net.now fixed.now }
+        requires fixed { AreWithMilestones net.now fixed.now }
         requires link { Kept self.old.over.items link }
         requires needed { needed < length net.now.links }
         requires other { link ≢ needed }
@@ -114,7 +116,7 @@ pub fn thin(
     first: ClosedWalk,
     needed: u32,
 ) -> Result<ClosedWalk, Memory>
-    requires fixed { AreFixed net.now fixed.now }
+    requires fixed { AreWithMilestones net.now fixed.now }
     requires closed { IsMarkedWalk net.now first }
     requires needed { needed < length net.now.links }
     requires spared { IsSpared net.now (Kept first.over.items) needed }

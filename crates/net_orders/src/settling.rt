@@ -6,7 +6,7 @@ ghost use Rattle.net_core.specs.Limits.{max_points};
 ghost use Rattle.net_core.specs.Ranks.{timeline_of};
 ghost use Rattle.order_closure.specs.Tables.{AreInRange};
 ghost use Rattle.std.specs.List.{All, position, sum_by};
-ghost use Rattle.std.specs.Prelude.{IfOk, IfSome, IsTrue, OnOk, length, unwrap_or, ◌<◌, ◌↔◌, ◌≡◌, ◌≤◌};
+ghost use Rattle.std.specs.Prelude.{IfOk, IfSome, IsTrue, OnOk, length, unwrap_or, ◌*◌, ◌<◌, ◌↔◌, ◌≡◌, ◌≤◌};
 
 use crate::least::raise_in_turns;
 use crate::orders::{Order, orders_but};
@@ -25,6 +25,25 @@ pub fn settle(orders: &[Order], fixed: &[Atom], omitted: u32, ranks: &mut [u32],
     requires orders { spec.AreOrdersBelow (length ranks.old) orders.now }
     requires fixed { AreInRange (length ranks.old) fixed.now }
     requires few { length ranks.old ≤ max_points }
+    requires within { AreRanksWithin ranks.old }
+    ensures rises { RanksRise (FitsBut orders.now fixed.now omitted) ranks.old ranks.new }
+    ensures fits { IsTrue result → FitsBut orders.now fixed.now omitted (timeline_of ranks.new) }
+    ensures stuck { ¬ IsTrue result → AreLow ranks.new → turns ≤ sum_by (λ rank. rank) ranks.new }
+{
+    settle_in_turns(orders, fixed, omitted, ranks, turns)
+}
+
+/// The same of points that may have milestones.
+fn settle_in_turns(
+    orders: &[Order],
+    fixed: &[Atom],
+    omitted: u32,
+    ranks: &mut [u32],
+    turns: u32,
+) -> bool
+    requires orders { spec.AreOrdersBelow (length ranks.old) orders.now }
+    requires fixed { AreInRange (length ranks.old) fixed.now }
+    requires few { length ranks.old ≤ 2 * max_points }
     requires within { AreRanksWithin ranks.old }
     ensures rises { RanksRise (FitsBut orders.now fixed.now omitted) ranks.old ranks.new }
     ensures fits { IsTrue result → FitsBut orders.now fixed.now omitted (timeline_of ranks.new) }
@@ -60,19 +79,19 @@ pub fn settle_without(
 ) -> Result<bool, Memory>
     requires orders { spec.AreOrdersBelow (length ranks.old) orders.now }
     requires fixed { AreInRange (length ranks.old) fixed.now }
-    requires few { length ranks.old ≤ max_points }
+    requires few { length ranks.old ≤ 2 * max_points }
     requires within { AreRanksWithin ranks.old }
     ensures rises { OnOk result (RanksRise (FitsBut orders.now fixed.now omitted) ranks.old ranks.new) }
     ensures fits { IfOk result (λ fits. IsTrue fits → FitsBut orders.now fixed.now omitted (timeline_of ranks.new)) }
     ensures stuck { IfOk result (λ fits. ¬ IsTrue fits → AreLow ranks.new → turns ≤ sum_by (λ rank. rank) ranks.new) }
 {
-    if settle(orders, fixed, omitted, ranks, FEW_TURNS) {
+    if settle_in_turns(orders, fixed, omitted, ranks, FEW_TURNS) {
         return Ok(true);
     }
     if settle_at_once(alloc, orders, fixed, omitted, ranks)? {
         return Ok(true);
     }
-    Ok(settle(orders, fixed, omitted, ranks, turns))
+    Ok(settle_in_turns(orders, fixed, omitted, ranks, turns))
 }
 
 /// Raises ranks once by all orders but those of one link, in a sequence that serves. Whether all of these hold then.
@@ -85,7 +104,7 @@ fn settle_at_once(
 ) -> Result<bool, Memory>
     requires orders { spec.AreOrdersBelow (length ranks.old) orders.now }
     requires fixed { AreInRange (length ranks.old) fixed.now }
-    requires few { length ranks.old ≤ max_points }
+    requires few { length ranks.old ≤ 2 * max_points }
     requires within { AreRanksWithin ranks.old }
     ensures rises { OnOk result (RanksRise (FitsBut orders.now fixed.now omitted) ranks.old ranks.new) }
     ensures fits { IfOk result (λ fits. IsTrue fits → FitsBut orders.now fixed.now omitted (timeline_of ranks.new)) }
@@ -144,7 +163,7 @@ fn first_of(orders: &[Order], link: u32) -> Option<usize>
 
 /// The sum of ranks.
 fn total(ranks: &[u32]) -> u64
-    requires { length ranks.now ≤ max_points }
+    requires { length ranks.now ≤ 2 * max_points }
     ensures { result ≡ sum_by (λ rank. rank) ranks.now }
 {
     ranks.iter().map(|rank| u64::from(*rank)).sum()
