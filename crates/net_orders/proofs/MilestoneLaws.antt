@@ -1,11 +1,12 @@
 -- Milestones, and what they say of the points that have dates.
 use Rattle.std.proofs.Common.{◌≡◌, ◌↔◌, ◌⊎◌, ℕ, zero, suc, ◌+◌, ◌-◌, ◌*◌, ◌<◌, ◌≤◌, ℤ, ◌<ℤ◌, ◌≤ℤ◌, int_le, int_lt, List, [], ◌∷◌, length, get_or, Option, Some, None, Bool, true, false, refl, sym, ap, subst, ◌∙◌, arith, inl, inr, below_more}
 use Rattle.std.specs.List.{All, Contains}
-use Rattle.std.specs.List.Sorted.{IsPartitionPoint, IsPartitionedBy}
+use Rattle.std.specs.List.Sorted.{IsPartitionPoint, IsPartitionedBy, IsPermutation}
 use Rattle.std.proofs.lemmas.Bool.{cases_lt}
 use Rattle.std.proofs.lemmas.Int.{ints}
 use Rattle.std.proofs.lemmas.List.Elements.{All-cons, All-contains, All-contains_itself, All-from_get_or, All-get_or, All-head, All-nil, All-tail, All-weaker, Contains-get_or}
-use Rattle.net_core.specs.Atoms.{IsInOrder, Satisfies, before}
+use Rattle.std.proofs.lemmas.List.Sorted.{All-permutation, Contains-permutation}
+use Rattle.net_core.specs.Atoms.{IsInOrder, IsInRange, Satisfies, before}
 use Rattle.net_core.specs.Fits.{FollowsNumbers, StartsFirst}
 use Rattle.net_core.specs.Nets.{PlainNet, intervals, lower, points, upper}
 use Rattle.net_core.specs.Relations.{Timeline}
@@ -383,4 +384,12 @@ no_span net orders says = record {
   in_range = says.in_range;
   placed = λ t holds. says.placed t holds.1;
   kept = λ t all. (λ j lt. absurd (omega arith), says.kept t all);
+}
+
+-- the same orders in another sequence say the same
+pub says_permuted : (net : PlainNet) (IsTrue : Timeline → Type 0) (orders moved : List Atom) → IsPermutation orders moved → SaysByMilestones net IsTrue orders → SaysByMilestones net IsTrue moved
+says_permuted net IsTrue orders moved permuted says = record {
+  in_range = All-permutation (IsInRange (2 * points net)) orders moved permuted says.in_range;
+  placed = λ t holds. let at = says.placed t holds in (at.0, at.1, All-permutation (Satisfies at.0) orders moved permuted at.2);
+  kept = λ t all. says.kept t (All-weaker (Contains orders) (Satisfies t) (λ order has. All-contains (Satisfies t) moved order all (Contains-permutation orders moved order permuted has)) orders (All-contains_itself orders));
 }

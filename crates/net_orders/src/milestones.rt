@@ -5,23 +5,36 @@ ghost use Rattle.net_core.specs.Atoms.{IsInRange, Satisfies};
 ghost use Rattle.net_core.specs.Limits.{max_points};
 ghost use Rattle.order_closure.specs.Tables.{AreInRange};
 ghost use Rattle.std.specs.List.{All};
-ghost use Rattle.std.specs.Prelude.{IfOk, OnOk, false, length, true, ℕ, ◌*◌, ◌+◌, ◌<◌, ◌≤◌};
+ghost use Rattle.std.specs.List.Sorted.{IsPermutation};
+ghost use Rattle.std.specs.Prelude.{IfOk, OnOk, false, length, true, ℕ, ◌*◌, ◌+◌, ◌<◌, ◌^◌, ◌≡◌, ◌≤◌};
 ghost use Rattle.walks.specs.Dates.{AreAscending, AreDatesBelow};
 
 use crate::links::span_order;
 use net_core::{Atom, Memory, Net};
 use std::alloc::Global;
+use std::cmp::Reverse;
 use walks::{Date, lowers_of, uppers_of};
 
 /// The orders that hold without any link, those of the calendar by way of *milestones*: further points, one for each point
 /// with a lower number. A milestone is no later than its point, nor than the next milestone. A point with an upper number is
 /// no later than the first milestone from that number on, and before the first one past it. So there are at most five orders
-/// for each point, where pairs of points can be as many as the square of these.
+/// for each point, where pairs of points can be as many as the square of these. From the last back they come in the course of
+/// the calendar, so that ranks that they raise mostly settle in one turn.
 ///
 /// # Errors
 ///
 /// Out of memory.
 pub fn orders_with_milestones(alloc: Global, net: &Net) -> Result<Vec<Atom>, Memory>
+    ensures { IfOk result (λ orders. AreWithMilestones net.now orders.items) }
+{
+    let mut orders = said_with_milestones(alloc, net)?;
+    let places = places_of(alloc, net)?;
+    sort_by_places(&mut orders, &places);
+    Ok(orders)
+}
+
+/// The same in some sequence.
+fn said_with_milestones(alloc: Global, net: &Net) -> Result<Vec<Atom>, Memory>
     ensures { IfOk result (λ orders. AreWithMilestones net.now orders.items) }
 {
     let mut orders = calendar_with_milestones(alloc, net)?;
@@ -173,4 +186,54 @@ fn push(order: Atom, orders: &mut Vec<Atom>) -> Result<(), Memory>
 {
     orders.push(order)?;
     Ok(())
+}
+
+/// For each point and milestone its place in the course of the calendar: how many dates come before it, and whether it is an
+/// end that leads to the next milestone, a milestone, or a point that one leads to.
+fn places_of(alloc: Global, net: &Net) -> Result<Vec<(usize, u8)>, Memory> {
+    let points = 2 * net.intervals() as usize;
+    let lowers = lowers_of(alloc, net)?;
+    let uppers = uppers_of(alloc, net)?;
+    let mut places = vec![in alloc; (0, 0); 2 * points]?;
+    place_uppers(&lowers, &uppers, &mut places);
+    place_lowers(points, &lowers, &mut places);
+    Ok(places)
+}
+
+/// Places each point with an upper number before the first milestone from that number on.
+fn place_uppers(lowers: &[Date], uppers: &[Date], places: &mut [(usize, u8)])
+    requires { AreAscending lowers.now }
+    ensures { length places.new ≡ length places.old }
+{
+    for upper in uppers {
+        let next = first_from(lowers, upper.number);
+        place(upper.point as usize, (next, 0), places);
+    }
+}
+
+/// Places each point with a lower number after its milestone, and these in the order of the dates.
+fn place_lowers(points: usize, lowers: &[Date], places: &mut [(usize, u8)])
+    requires { points < 2 ^ 32 }
+    ensures { length places.new ≡ length places.old }
+{
+    for (k, lower) in lowers.iter().enumerate() {
+        place(points + lower.point as usize, (k, 1), places);
+        place(lower.point as usize, (k, 2), places);
+    }
+}
+
+/// Gives a point its place.
+fn place(point: usize, place: (usize, u8), places: &mut [(usize, u8)])
+    ensures { length places.new ≡ length places.old }
+{
+    if let Some(here) = places.get_mut(point) {
+        *here = place;
+    }
+}
+
+/// Puts the orders that leave the last point in the course of the calendar first.
+fn sort_by_places(orders: &mut [Atom], places: &[(usize, u8)])
+    ensures { IsPermutation orders.old orders.new }
+{
+    orders.sort_unstable_by_key(|order| Reverse(places.get(order.from as usize).copied()));
 }

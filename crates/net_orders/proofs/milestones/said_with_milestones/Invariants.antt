@@ -3,7 +3,7 @@ use Rattle.net_core.specs.Nets.{intervals}
 use Rattle.net_orders.specs.Milestones.{SaysByMilestones}
 use Rattle.net_orders.specs.Steps.{KeepsDates}
 use Rattle.net_orders.proofs.Ordered.{IsFixedBelow}
-use Rattle.net_orders.proofs.milestones.orders_with_milestones.Given as goal
+use Rattle.net_orders.proofs.milestones.said_with_milestones.Given as goal
 
 -- the orders of the calendar, and that the intervals so far start before they end
 abbrev pub invariant-loop-interval : goal.invariant-loop-interval
