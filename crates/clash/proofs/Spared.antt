@@ -1,11 +1,13 @@
 -- The least ranks with which a walk's links but one hold.
-use Rattle.std.proofs.Common.{◌≡◌, ◌≢◌, ◌↔◌, ◌==◌, ◌&&◌, ℕ, ◌+◌, ◌<◌, ◌≤◌, Bool, true, false, not, List, [], ◌∷◌, ◌++◌, length, length-append, replicate, take, slice_index, slice_index_or, sym, subst, ◌∙◌, arith, inl, inr}
+use Rattle.std.proofs.Common.{◌≡◌, ◌≢◌, ◌↔◌, ◌==◌, ◌&&◌, ℕ, ◌+◌, ◌-◌, ◌*◌, ◌<◌, ◌≤◌, Bool, true, false, not, List, [], ◌∷◌, ◌++◌, length, length-append, replicate, take, slice_index, slice_index_or, sym, subst, ◌∙◌, arith, inl, inr}
 use Rattle.std.specs.List.{Contains}
 use Rattle.std.proofs.Math.ListN.{get_or-append}
 use Rattle.std.proofs.Math.Seq.{get_or-append_seam}
 use Rattle.std.proofs.lemmas.Bool.{cases_lt}
 use Rattle.std.proofs.lemmas.Bool.Decides.{nat_tests}
-use Rattle.std.proofs.lemmas.List.{get_or_default, get_or_past, take_more}
+use Rattle.std.proofs.lemmas.List.{get_or-take, get_or_default, get_or_past, length-take-le, take_more}
+use Rattle.std.proofs.lemmas.List.Elements.{All-weaker}
+use Rattle.net_core.specs.Atoms.{IsInRange}
 use Rattle.net_core.specs.Clashes.{Others}
 use Rattle.net_core.specs.Fits.{FitsWith}
 use Rattle.net_core.specs.Least.{AreSpares, IsSpare}
@@ -18,13 +20,15 @@ use Rattle.net_core.specs.declared.atom.Atom.{Atom}
 use Rattle.net_core.proofs.StepLaws.{fits_fewer}
 use Rattle.order_closure.specs.Tables.{AreInRange}
 use Rattle.clash.specs.Minimal.{IsMarkedWalk, IsSpared}
-use Rattle.net_orders.specs.Orders.{AreOrdersBelow, AreFixed, FitsBut}
+use Rattle.net_orders.specs.Milestones.{AreWithMilestones}
+use Rattle.net_orders.specs.Orders.{AreOrdersBelow, FitsBut}
 use Rattle.net_orders.specs.Raising.{AreLow, AreRanksWithin, RanksRise}
 use Rattle.net_orders.specs.declared.orders.Order.{Order}
-use Rattle.net_orders.proofs.Zeros.{least_from_zeros, zeros_size, zeros_under, zeros_within}
+use Rattle.net_orders.proofs.SamePoints.{fits_same}
+use Rattle.net_orders.proofs.Zeros.{zeros_size, zeros_under, zeros_within}
 use Rattle.clash.specs.declared.closed_walk.ClosedWalk.{ClosedWalk}
 use Rattle.clash.proofs.Complete.{small_timeline}
-use Rattle.clash.proofs.WalkBut.{fits_but}
+use Rattle.clash.proofs.WalkBut.{fits_kept, fits_placed}
 
 -- whether a link is one of those that are marked, and another one
 is_other : List Bool → ℕ → ℕ → Bool
@@ -39,64 +43,84 @@ others marks omitted k = both (slice_index_or marks k false)
     both false = (λ e. absurd cc, λ e. absurd (let f = e.0 in cc))
 
 -- zeros can be raised by the orders of a closed walk and by those that are fixed
-pub zeros_ready : (net : PlainNet) (closed : ClosedWalk) (fixed : List Atom) (orders : List Order) (zeros : List ℕ) → IsNet net → IsMarkedWalk net closed → AreFixed net fixed
-    → orders ≡ closed.orders → zeros ≡ replicate (points net) 0
-    → AreOrdersBelow (length zeros) orders × AreInRange (length zeros) fixed × (length zeros ≤ max_points) × AreRanksWithin zeros
+pub zeros_ready : (net : PlainNet) (closed : ClosedWalk) (fixed : List Atom) (orders : List Order) (zeros : List ℕ) → IsNet net → IsMarkedWalk net closed → AreWithMilestones net fixed
+    → orders ≡ closed.orders → zeros ≡ replicate (2 * points net) 0
+    → AreOrdersBelow (length zeros) orders × AreInRange (length zeros) fixed × (length zeros ≤ 2 * max_points) × AreRanksWithin zeros
 zeros_ready net closed fixed orders zeros net_is is are same e =
-    let size = sym (zeros_size (points net) zeros e) in
-    let few = net_is.few_intervals in (
-      subst (λ (n : ℕ). AreOrdersBelow n orders) size (subst (AreOrdersBelow (points net)) (sym same) is.orders.in_range),
+    let size = sym (zeros_size (2 * points net) zeros e) in
+    let few = net_is.few_intervals in
+    let below : AreOrdersBelow (2 * points net) closed.orders = All-weaker (λ (o : Order). IsInRange (points net) o.atom) (λ (o : Order). IsInRange (2 * points net) o.atom)
+    (λ o in_range. (omega (arith, in_range.0), omega (arith, in_range.1))) closed.orders is.orders.in_range in (
+      subst (λ (n : ℕ). AreOrdersBelow n orders) size (subst (AreOrdersBelow (2 * points net)) (sym same) below),
       subst (λ (n : ℕ). AreInRange n fixed) size are.in_range,
       omega (arith, size),
-      zeros_within (points net) zeros e,
+      zeros_within (2 * points net) zeros e,
     )
 
-module _ (net : PlainNet) (closed : ClosedWalk) (fixed : List Atom) (omitted : ℕ) (net_is : IsNet net) (is : IsMarkedWalk net closed) (are : AreFixed net fixed) (spared : IsSpared net (Kept closed.over.items) omitted) where
+module _ (net : PlainNet) (closed : ClosedWalk) (fixed : List Atom) (omitted : ℕ) (net_is : IsNet net) (is : IsMarkedWalk net closed) (are : AreWithMilestones net fixed) (zeros ranks : List ℕ)
+    (e : zeros ≡ replicate (2 * points net) 0) (rises : RanksRise (FitsBut closed.orders fixed omitted) zeros ranks) where
   abbrev Rest : ℕ → Type 0
   Rest = Others (Kept closed.over.items) omitted
 
+  -- there are ranks of all points and their milestones
+  size : length ranks ≡ 2 * points net
+  size = rises.size ∙ zeros_size (2 * points net) zeros e
+
+  -- ranks that rose from zeros are not past a timeline that fits with the other links
+  under : (t : Timeline) → FitsWith net Rest t → (p : ℕ) → p < points net → slice_index ranks p ≤ t p
+  under t fits p lt =
+      let at = fits_placed net closed fixed omitted is are t fits in
+      let least = rises.under at.0 at.2 (zeros_under (2 * points net) zeros e at.0) p (omega (arith, size)) in
+      omega (arith, at.1.same p lt)
+
+  -- nor past it where there are milestones
+  milestones_under : (t : Timeline) → FitsWith net Rest t → (q : ℕ) → q < points net → slice_index ranks (points net + q) ≤ t q
+  milestones_under t fits q lt =
+      let at = fits_placed net closed fixed omitted is are t fits in
+      let least = rises.under at.0 at.2 (zeros_under (2 * points net) zeros e at.0) (points net + q) (omega (arith, size)) in
+      omega (arith, at.1.early q lt)
+
   -- a timeline that fits with the other links, and has small ranks
-  small : (t : Timeline) × FitsWith net Rest t × ((p : ℕ) → p < points net → t p < points net)
-  small =
+  small : IsSpared net (Kept closed.over.items) omitted → (t : Timeline) × FitsWith net Rest t × ((p : ℕ) → p < points net → t p < points net)
+  small spared =
       let test = is_other closed.over.items omitted in
       let one = small_timeline net test net_is spared.0
       (fits_fewer net Rest (λ k. test k ≡ true) spared.0 (λ k below. (others closed.over.items omitted k).0) spared.1) in
       (one.0, fits_fewer net (λ k. test k ≡ true) Rest one.0 (λ k below. (others closed.over.items omitted k).1) one.1, one.2)
 
   -- ranks that rose from zeros are low
-  pub low_from_zeros : (zeros ranks : List ℕ) → zeros ≡ replicate (points net) 0 → RanksRise (FitsBut closed.orders fixed omitted) zeros ranks → AreLow ranks
-  low_from_zeros zeros ranks e rises p =
-      let size = zeros_size (points net) zeros e in
-      let long = rises.size in
+  pub low_from_zeros : IsSpared net (Kept closed.over.items) omitted → AreLow ranks
+  low_from_zeros spared p =
       let few = net_is.few_intervals in
-      elim (cases_lt p (length ranks)) [
-        | inl lt ↦
-            let under = rises.under small.0 ((fits_but net closed fixed omitted is are small.0).0 small.1) (zeros_under (points net) zeros e small.0) p lt in
-            let below = small.2 p (omega arith) in
-            omega arith
-        | inr past ↦ omega (arith, get_or_past ranks p 0 past)
+      let one = small spared in
+      elim (cases_lt p (points net)) [
+        | inl lt ↦ omega (arith, under one.0 one.1 p lt, one.2 p lt)
+        | inr more ↦ elim (cases_lt p (2 * points net)) [
+          | inl lt ↦
+              let q = p - points net in
+              let within : q < points net = omega arith in
+              let here : points net + q ≡ p = omega arith in
+              let least = subst (λ (k : ℕ). slice_index ranks k ≤ one.0 q) here (milestones_under one.0 one.1 q within) in
+              omega (arith, one.2 q within)
+          | inr past ↦ omega (arith, get_or_past ranks p 0 (omega (arith, size)))
+        ]
       ]
 
-  -- zeros that rise until they fit are the least ranks
-  pub spare_of_zeros : (zeros ranks : List ℕ) → zeros ≡ replicate (points net) 0 → RanksRise (FitsBut closed.orders fixed omitted) zeros ranks → FitsBut closed.orders fixed omitted (timeline_of ranks)
-      → IsSpare net (Kept closed.over.items) omitted ranks
-  spare_of_zeros zeros ranks e rises fits =
-      let least = least_from_zeros (points net) zeros e (FitsBut closed.orders fixed omitted) ranks rises fits in
-      let under = λ (u : Timeline) (holds : FitsWith net Rest u). least.1.least u ((fits_but net closed fixed omitted is are u).0 holds) in
+  -- zeros that rise until they fit are the least ranks, and so a timeline fits
+  pub spare_from_zeros : FitsBut closed.orders fixed omitted (timeline_of ranks) → IsSpare net (Kept closed.over.items) omitted (take (points net) ranks)
+  spare_from_zeros fits =
+      let first = take (points net) ranks in
+      let same = λ (p : ℕ) (lt : p < points net). get_or-take (points net) ranks p 0 lt in
+      let there = fits_kept net closed fixed omitted is are (timeline_of ranks) fits in
+      let one = small (timeline_of ranks, there) in
       record {
-        size = least.0;
+        size = length-take-le (points net) ranks (omega (arith, size));
         least = record {
-          holds = (fits_but net closed fixed omitted is are (timeline_of ranks)).1 least.1.holds;
-          least = under;
+          holds = fits_same net (timeline_of ranks) (timeline_of first) same Rest net_is there;
+          least = λ u holds p lt. omega (arith, same p lt, under u holds p lt);
         };
-        small = λ p lt. let below = under small.0 small.1 p lt in let few = small.2 p lt in omega arith;
+        small = λ p lt. omega (arith, same p lt, under one.0 one.1 p lt, one.2 p lt);
       }
-
--- zeros that rise until they fit are the least ranks, and so a timeline fits
-pub spare_from_zeros : (net : PlainNet) (closed : ClosedWalk) (fixed : List Atom) (omitted : ℕ) (zeros ranks : List ℕ) → IsNet net → IsMarkedWalk net closed → AreFixed net fixed
-    → zeros ≡ replicate (points net) 0 → RanksRise (FitsBut closed.orders fixed omitted) zeros ranks → FitsBut closed.orders fixed omitted (timeline_of ranks) → IsSpare net (Kept closed.over.items) omitted ranks
-spare_from_zeros net closed fixed omitted zeros ranks net_is is are e rises fits =
-    spare_of_zeros net closed fixed omitted net_is is are (timeline_of ranks, (fits_but net closed fixed omitted is are (timeline_of ranks)).1 fits) zeros ranks e rises fits
 
 -- where there is a spare for each of some links, each of them is needed
 pub spares_needed : (net : PlainNet) (Chosen : ℕ → Type 0) (cites : List ℕ) (spares : List (List ℕ)) → AreSpares net Chosen cites spares → (k : ℕ) → Contains cites k → IsSpared net Chosen k

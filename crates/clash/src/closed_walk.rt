@@ -1,6 +1,6 @@
 //! Closed walks, and the links that they go over.
 ghost use Rattle.clash.specs.Minimal.{IsMarkedWalk, IsSpared};
-ghost use Rattle.net_orders.specs.Orders.{AreFixed};
+ghost use Rattle.net_orders.specs.Milestones.{AreWithMilestones};
 ghost use Rattle.net_core.specs.Fits.{EveryLink};
 ghost use Rattle.net_core.specs.Least.{IsSpare};
 ghost use Rattle.net_core.specs.Nets.{points};
@@ -9,12 +9,12 @@ ghost use Rattle.net_core.specs.declared.step.Step.{Step as StepOf};
 ghost use Rattle.std.specs.Prelude.{IfNone, IfOk, IfSome, List as ListOf, OnOk, false, length, ℕ, ◌*◌, ◌<◌, ◌≡◌, ◌≢◌, ◌≤◌};
 
 use net_core::{Atom, List, Memory, Net, Ranks, Walk, mark_steps};
-use net_orders::{Order, atoms_of_link, nth_order, orders_of, settle};
+use net_orders::{Order, atoms_of_link, nth_order, orders_of, settle_without};
 use std::alloc::Global;
 use walks::walk;
 
-/// How many turns ranks are given to settle without a link: without nearly all that are needed they do so in three.
-pub const TURNS: u32 = 8;
+/// How many turns more ranks are given to settle where a sequence that serves was not enough.
+pub const TURNS: u32 = 0;
 
 /// A walk from a point to itself with a strict step, a mark for each link that it goes over, and the orders that its steps
 /// are over.
@@ -50,12 +50,21 @@ impl ClosedWalk {
         turns: u32,
     ) -> Result<Option<Ranks>, Memory>
         requires closed { IsMarkedWalk net.now self.now }
-        requires fixed { AreFixed net.now fixed.now }
+        requires fixed { AreWithMilestones net.now fixed.now }
         ensures some { IfOk result (λ found. IfSome found (IsSpare net.now (Kept self.now.over.items) omitted)) }
         ensures none { IfOk result (λ found. IfNone found (turns ≡ u32.MAX → IsSpared net.now (Kept self.now.over.items) omitted → ⊥)) }
     {
-        let mut ranks = vec![in alloc; 0u32; 2 * net.intervals() as usize]?;
-        if settle(self.orders.as_slice(), fixed, omitted, &mut ranks, turns) {
+        let points = 2 * net.intervals() as usize;
+        let mut ranks = vec![in alloc; 0u32; 2 * points]?;
+        if settle_without(
+            alloc,
+            self.orders.as_slice(),
+            fixed,
+            omitted,
+            &mut ranks,
+            turns,
+        )? {
+            ranks.truncate(points);
             Ok(Some(Ranks::from_vec(ranks)))
         } else {
             Ok(None)
@@ -73,7 +82,7 @@ impl ClosedWalk {
         needed: u32,
     ) -> Result<(), Memory>
         requires closed { IsMarkedWalk net.now self.old }
-        requires fixed { AreFixed net.now fixed.now }
+        requires fixed { AreWithMilestones net.now fixed.now }
         requires link { Kept self.old.over.items link }
         requires needed { needed < length net.now.links }
         requires other { link ≢ needed }
@@ -107,7 +116,7 @@ pub fn thin(
     first: ClosedWalk,
     needed: u32,
 ) -> Result<ClosedWalk, Memory>
-    requires fixed { AreFixed net.now fixed.now }
+    requires fixed { AreWithMilestones net.now fixed.now }
     requires closed { IsMarkedWalk net.now first }
     requires needed { needed < length net.now.links }
     requires spared { IsSpared net.now (Kept first.over.items) needed }

@@ -94,7 +94,7 @@ fn in_sequence(alloc: Global, net: &Net, fixed: &[Atom]) -> Result<Option<Closed
     let orders = all_orders(alloc, net, fixed)?;
     let sequence = sequence_of(alloc, points, &orders)?;
     if has_strict_cycle(alloc, points, &orders, &sequence)? {
-        let Some(clash) = clash_soon(alloc, net, fixed, &orders, &sequence)? else {
+        let Some(clash) = clash_soon(alloc, net, fixed.len(), &orders, &sequence)? else {
             return Ok(None);
         };
         return Err(CloseFault::Clash(clash));
@@ -137,7 +137,7 @@ fn by_links(alloc: Global, net: &Net, fixed: &[Atom]) -> Result<Closed, CloseFau
     match add_links(&mut table, net) {
         Ok(()) => Ok(table),
         Err(first) => {
-            let clash = clash_up_to(alloc, net, fixed, first.link)?;
+            let clash = clash_up_to(alloc, net, first.link)?;
             Err(CloseFault::Clash(clash))
         }
     }

@@ -1,6 +1,6 @@
 //! Minimal clashes.
 ghost use Rattle.clash.specs.Minimal.{IsFirstClash, IsProvedClash, IsMarkedWalk, IsSpared, UpTo};
-ghost use Rattle.net_orders.specs.Orders.{AreFixed};
+ghost use Rattle.net_orders.specs.Milestones.{AreWithMilestones};
 ghost use Rattle.net_core.specs.Walks.{Kept};
 ghost use Rattle.std.specs.List.{Contains};
 ghost use Rattle.std.specs.List.Sorted.{IsStrictlyIncreasing};
@@ -11,7 +11,7 @@ ghost use Rattle.std.specs.Prelude.{IfOk, IfSome, length, ℕ, ◌<◌, ◌≡�
 use crate::closed_walk::{ClosedWalk, TURNS, closed_walk_over, thin};
 use crate::spares::{spares_of, spares_soon};
 use net_core::{Atom, List, Memory, Net, Ranks, Walk};
-use net_orders::first_unsettled;
+use net_orders::{first_unsettled, orders_with_milestones};
 use std::alloc::Global;
 
 /// Links that cannot all be true with the spans and the calendar, and of which any one can be left out so that the others
@@ -27,7 +27,8 @@ pub struct Clash {
     pub spares: List<Ranks>,
 }
 
-/// A clash of some links up to the one with which ranks no longer settle soon. None comes seldom where links clash.
+/// A clash of some links up to the one with which ranks no longer settle soon, where the orders of links follow `fixed` others.
+/// None comes seldom where links clash.
 ///
 /// # Errors
 ///
@@ -35,15 +36,14 @@ pub struct Clash {
 pub fn clash_soon(
     alloc: Global,
     net: &Net,
-    fixed: &[Atom],
+    fixed: usize,
     orders: &[Atom],
     sequence: &[usize],
 ) -> Result<Option<Clash>, Memory>
-    requires fixed { AreFixed net.now fixed.now }
-    requires in_range { AreInRange (points net.now) orders.now }
+    requires { AreInRange (points net.now) orders.now }
     ensures { IfOk result (λ found. IfSome found (IsProvedClash net.now)) }
 {
-    let Some(link) = first_unsettled(alloc, net, fixed.len(), orders, sequence)? else {
+    let Some(link) = first_unsettled(alloc, net, fixed, orders, sequence)? else {
         return Ok(None);
     };
     let keep = up_to(alloc, net, link)?;
@@ -51,10 +51,11 @@ pub fn clash_soon(
         return Ok(None);
     };
     let closed = ClosedWalk::new(alloc, net, walk)?;
-    let Some(_) = closed.spare(alloc, net, fixed, link, TURNS)? else {
+    let few = orders_with_milestones(alloc, net)?;
+    let Some(_) = closed.spare(alloc, net, &few, link, TURNS)? else {
         return Ok(None);
     };
-    let clash = clash_of(alloc, net, fixed, closed, link)?;
+    let clash = clash_of(alloc, net, &few, closed, link)?;
     Ok(Some(clash))
 }
 
@@ -63,13 +64,13 @@ pub fn clash_soon(
 /// # Errors
 ///
 /// Out of memory.
-pub fn clash_up_to(alloc: Global, net: &Net, fixed: &[Atom], link: u32) -> Result<Clash, Memory>
-    requires fixed { AreFixed net.now fixed.now }
-    requires first { IsFirstClash net.now link }
+pub fn clash_up_to(alloc: Global, net: &Net, link: u32) -> Result<Clash, Memory>
+    requires { IsFirstClash net.now link }
     ensures { IfOk result (IsProvedClash net.now) }
 {
     let first = first_closed_walk(alloc, net, link)?;
-    clash_of(alloc, net, fixed, first, link)
+    let fixed = orders_with_milestones(alloc, net)?;
+    clash_of(alloc, net, &fixed, first, link)
 }
 
 /// The clash of the links that a walk goes over, of which one is needed, or of some of them.
@@ -80,7 +81,7 @@ fn clash_of(
     first: ClosedWalk,
     needed: u32,
 ) -> Result<Clash, Memory>
-    requires fixed { AreFixed net.now fixed.now }
+    requires fixed { AreWithMilestones net.now fixed.now }
     requires closed { IsMarkedWalk net.now first }
     requires needed { needed < length net.now.links }
     requires spared { IsSpared net.now (Kept first.over.items) needed }

@@ -1,7 +1,7 @@
 //! The least timelines that fit with all links of a clash but one.
 ghost use Rattle.net_core.specs.Least.{AreSpares, IsSpare};
 ghost use Rattle.clash.specs.Minimal.{IsMarkedWalk, IsSpared};
-ghost use Rattle.net_orders.specs.Orders.{AreFixed};
+ghost use Rattle.net_orders.specs.Milestones.{AreWithMilestones};
 ghost use Rattle.net_core.specs.Walks.{Kept};
 ghost use Rattle.std.specs.List.{All};
 ghost use Rattle.std.specs.Prelude.{IfOk, IfSome};
@@ -22,7 +22,7 @@ pub fn spares_of(
     closed: &ClosedWalk,
     cites: &[u32],
 ) -> Result<List<Ranks>, Memory>
-    requires fixed { AreFixed net.now fixed.now }
+    requires fixed { AreWithMilestones net.now fixed.now }
     requires closed { IsMarkedWalk net.now closed.now }
     requires spared { All (IsSpared net.now (Kept closed.now.over.items)) cites.now }
     ensures { IfOk result (AreSpares net.now (Kept closed.now.over.items) cites.now) }
@@ -47,7 +47,7 @@ pub fn spares_soon(
     closed: &ClosedWalk,
     cites: &[u32],
 ) -> Result<Option<List<Ranks>>, Memory>
-    requires fixed { AreFixed net.now fixed.now }
+    requires fixed { AreWithMilestones net.now fixed.now }
     requires closed { IsMarkedWalk net.now closed.now }
     ensures { IfOk result (λ found. IfSome found (AreSpares net.now (Kept closed.now.over.items) cites.now)) }
 {
@@ -69,7 +69,7 @@ fn spare_of(
     closed: &ClosedWalk,
     omitted: u32,
 ) -> Result<Ranks, Memory>
-    requires fixed { AreFixed net.now fixed.now }
+    requires fixed { AreWithMilestones net.now fixed.now }
     requires closed { IsMarkedWalk net.now closed.now }
     requires spared { IsSpared net.now (Kept closed.now.over.items) omitted }
     ensures { IfOk result (IsSpare net.now (Kept closed.now.over.items) omitted) }

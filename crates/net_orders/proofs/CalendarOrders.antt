@@ -24,7 +24,7 @@ by_test x y true e = inl (grind (arith, ints))
 by_test x y false e = inr (grind (arith, ints))
 
 -- one number is not above another, or the other is below it
-by_number : (x y : ℤ) → (x ≤ℤ y) ⊎ (y <ℤ x)
+pub by_number : (x y : ℤ) → (x ≤ℤ y) ⊎ (y <ℤ x)
 by_number x y = by_test x y (int_le x y) refl
 
 -- the order of numbers says nothing of a lower number below an upper one

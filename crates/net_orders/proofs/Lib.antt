@@ -9,3 +9,5 @@ pub mod Settled
 pub mod RankSums
 pub mod Zeros
 pub mod Measures
+pub mod MilestoneLaws
+pub mod SamePoints

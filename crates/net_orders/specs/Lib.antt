@@ -3,3 +3,4 @@ pub mod Orders
 pub mod Raising
 pub mod Sequence
 pub mod Steps
+pub mod Milestones

@@ -50,16 +50,24 @@ fn components_of(
     let entering = Leaving::new(alloc, points, &turned)?;
     let mut components = vec![in alloc; None; points]?;
     let mut met = Vec::new(alloc);
+    let mut inward = Vec::new(alloc);
     for number in sequence.iter().rev() {
         let point = orders[*number].from as usize;
         meet(&mut components, point, point, &mut met)?;
-        flood(&entering, &turned, point, &mut components, &mut met)?;
+        flood(
+            &entering,
+            &turned,
+            point,
+            &mut components,
+            &mut met,
+            &mut inward,
+        )?;
     }
     Ok(components)
 }
 
 /// The orders the other way round.
-fn turned(alloc: Global, points: usize, orders: &[Atom]) -> Result<Vec<Atom>, Memory>
+pub fn turned(alloc: Global, points: usize, orders: &[Atom]) -> Result<Vec<Atom>, Memory>
     requires { AreInRange points orders.now }
     ensures in_range { IfOk result (λ turned. AreInRange points turned.items) }
     ensures size { IfOk result (λ turned. length turned.items ≡ length orders.now) }
@@ -77,41 +85,45 @@ fn turned(alloc: Global, points: usize, orders: &[Atom]) -> Result<Vec<Atom>, Me
     Ok(turned)
 }
 
-/// Adds a point to a component, unless it is in one, and notes that it was met.
-fn meet(
+/// Adds a point to a component, unless it is in one, and notes that it was met. Whether it was.
+pub fn meet(
     components: &mut [Option<usize>],
     point: usize,
     component: usize,
     met: &mut Vec<usize>,
-) -> Result<(), Memory>
+) -> Result<bool, Memory>
     requires point { point < length components.old }
     requires met { ArePoints (length components.old) met.old.items }
     ensures { OnOk result (ArePoints (length components.old) met.new.items) }
 {
     if components[point].is_some() {
-        return Ok(());
+        return Ok(false);
     }
     components[point] = Some(component);
     met.push(point)?;
-    Ok(())
+    Ok(true)
 }
 
-/// Adds all points that lead to those that were met to a component, unless they are in one. Each is met once.
-fn flood(
+/// Adds all points that lead to those that were met to a component, unless they are in one. Each is met once, and the number
+/// of the order by which it was met is appended to `inward`: from the last back these lead to the points that were met first.
+pub fn flood(
     entering: &Leaving,
     turned: &[Atom],
     component: usize,
     components: &mut [Option<usize>],
     met: &mut Vec<usize>,
+    inward: &mut Vec<usize>,
 ) -> Result<(), Memory>
-    requires { AreMetAlong (length components.old) entering.now turned.now met.old.items }
-    ensures { OnOk result (ArePoints (length components.old) met.new.items) }
+    requires met { AreMetAlong (length components.old) entering.now turned.now met.old.items }
+    requires inward { All (λ k. k < length turned.now) inward.old.items }
+    ensures met { OnOk result (ArePoints (length components.old) met.new.items) }
+    ensures inward { OnOk result (All (λ k. k < length turned.now) inward.new.items) }
 {
     'flood: for _ in 0..components.len() {
         let Some(point) = met.pop() else {
             return Ok(());
         };
-        spread(entering, turned, point, component, components, met)?;
+        spread(entering, turned, point, component, components, met, inward)?;
     }
     Ok(())
 }
@@ -124,14 +136,19 @@ fn spread(
     component: usize,
     components: &mut [Option<usize>],
     met: &mut Vec<usize>,
+    inward: &mut Vec<usize>,
 ) -> Result<(), Memory>
     requires met { AreMetAlong (length components.old) entering.now turned.now met.old.items }
     requires point { point < length components.old }
-    ensures { OnOk result (ArePoints (length components.old) met.new.items) }
+    requires inward { All (λ k. k < length turned.now) inward.old.items }
+    ensures met { OnOk result (ArePoints (length components.old) met.new.items) }
+    ensures inward { OnOk result (All (λ k. k < length turned.now) inward.new.items) }
 {
     let mut next = entering.last[point];
     while let Some(k) = next {
-        meet(components, turned[k].to as usize, component, met)?;
+        if meet(components, turned[k].to as usize, component, met)? {
+            inward.push(k)?;
+        }
         next = entering.before[k];
     }
     Ok(())

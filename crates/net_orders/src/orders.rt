@@ -1,12 +1,13 @@
 //! The orders of points that the steps of a walk are over.
 ghost use Rattle.net_orders.specs.Orders as spec;
-ghost use Rattle.net_orders.specs.Orders.{AreFixed, AreStepOrders, HoldsBut, AppendsOrders};
-ghost use Rattle.net_core.specs.Atoms.{atoms_in};
+ghost use Rattle.net_orders.specs.Dates.{ExtendsOrders};
+ghost use Rattle.net_orders.specs.Orders.{AppendsOrders, AreFixed, AreStepOrders, FitsBut, HoldsBut, IsTrueBut};
+ghost use Rattle.net_core.specs.Atoms.{IsInRange, atoms_in};
 ghost use Rattle.net_core.specs.Fits.{Fits, KeepsLink};
 ghost use Rattle.net_core.specs.Nets.{points};
 ghost use Rattle.net_core.specs.Relations.{Timeline};
 ghost use Rattle.order_closure.specs.Tables.{AreInRange, SatisfiesAll};
-ghost use Rattle.std.specs.Prelude.{IfOk, OnOk, length, ◌++◌, ◌↔◌, ◌<◌, ◌≡◌, ◌≢◌};
+ghost use Rattle.std.specs.Prelude.{IfOk, OnOk, length, ◌++◌, ◌↔◌, ◌<◌, ◌≡◌, ◌≢◌, ℕ};
 
 use crate::calendar::calendar_orders;
 use crate::links::{atoms_of_link, nth_order, span_order};
@@ -117,5 +118,41 @@ fn push_atoms(orders: &mut Vec<Atom>, atoms: Atoms) -> Result<(), Memory>
     for number in 0..atoms.count() {
         orders.push(nth_order(&atoms, number))?;
     }
+    Ok(())
+}
+
+/// The orders that are fixed, and others but those of one link.
+///
+/// # Errors
+///
+/// Out of memory.
+pub fn orders_but(
+    alloc: Global,
+    points: usize,
+    orders: &[Order],
+    fixed: &[Atom],
+    omitted: u32,
+) -> Result<Vec<Atom>, Memory>
+    requires orders { spec.AreOrdersBelow points orders.now }
+    requires fixed { AreInRange points fixed.now }
+    ensures in_range { IfOk result (λ left. AreInRange points left.items) }
+    ensures exact { IfOk result (λ left. (t : Timeline) → SatisfiesAll left.items t ↔ FitsBut orders.now fixed.now omitted t) }
+{
+    let mut left = Vec::from_slice(alloc, fixed)?;
+    for order in orders {
+        push_unless(*order, omitted, &mut left)?;
+    }
+    Ok(left)
+}
+
+/// Appends an order, unless it is of the link that is left out.
+fn push_unless(order: Order, omitted: u32, left: &mut Vec<Atom>) -> Result<(), Memory>
+    ensures { OnOk result ((n : ℕ) → AreInRange n left.old.items → IsInRange n order.atom
+        → ExtendsOrders n (IsTrueBut omitted order) left.old.items left.new.items) }
+{
+    if order.is_of(omitted) {
+        return Ok(());
+    }
+    left.push(order.atom)?;
     Ok(())
 }

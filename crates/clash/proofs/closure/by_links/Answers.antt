@@ -3,10 +3,7 @@ use Rattle.clash.proofs.Exact.{first_clash, keeps_fits, none_fits}
 use Rattle.clash.proofs.closure.by_links.Goals as goal
 
 pub clash_up_to-requires : goal.clash_up_to-requires
-clash_up_to-requires c = record {
-  fixed = c.requires;
-  first = first_clash c.args.net.now c.in_ok-table.table c.in_ok-table.ensures.keeps c.in-Err.first.link c.in-Err.ensures.err;
-}
+clash_up_to-requires c = first_clash c.args.net.now c.in_ok-table.table c.in_ok-table.ensures.keeps c.in-Err.first.link c.in-Err.ensures.err
 
 pub returns-in-Ok-clause-ok : goal.returns-in-Ok-clause-ok
 returns-in-Ok-clause-ok c = record {

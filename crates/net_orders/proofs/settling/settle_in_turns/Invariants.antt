@@ -2,7 +2,7 @@ use Rattle.std.proofs.Common.{◌≡◌, ◌≤◌}
 use Rattle.std.specs.List.{sum_by}
 use Rattle.net_orders.specs.Orders.{FitsBut}
 use Rattle.net_orders.specs.Raising.{RanksRise}
-use Rattle.net_orders.proofs.settling.settle.Given as goal
+use Rattle.net_orders.proofs.settling.settle_in_turns.Given as goal
 
 -- ranks rose in each turn
 abbrev pub invariant-loop-turn : goal.invariant-loop-turn

@@ -6,7 +6,7 @@ use Rattle.net_orders.specs.Orders.{FitsBut}
 use Rattle.net_orders.specs.Raising.{AreLow}
 use Rattle.net_orders.proofs.Rising.{rises_part, rises_then}
 use Rattle.net_orders.proofs.Settled.{low_from_all}
-use Rattle.net_orders.proofs.settling.settle.Goals as goal
+use Rattle.net_orders.proofs.settling.settle_in_turns.Goals as goal
 
 pub loop-turn-init : goal.loop-turn-init
 loop-turn-init c = record {

@@ -1,0 +1,13 @@
+use Rattle.std.proofs.Common.{int_lt, rules}
+use Rattle.std.proofs.lemmas.List.Sorted.{IsPartitionPoint-from_clause}
+use Rattle.walks.specs.declared.dates.Date.{Date}
+use Rattle.walks.proofs.DateLaws.{below_first}
+use Rattle.net_orders.proofs.MilestoneLaws.{place_at_least}
+use Rattle.net_orders.proofs.milestones.first_from.Goals as goal
+
+pub returns : goal.returns
+returns c =
+    let dates = c.args.dates.now in
+    let number = c.args.number in
+    place_at_least dates number c.partition_point.result
+    (IsPartitionPoint-from_clause (λ (date : Date). int_lt date.number number) dates c.partition_point.result c.partition_point.ensures.partitioned (below_first dates number c.requires) (λ a r q k. search rules))

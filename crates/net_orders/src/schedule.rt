@@ -1,0 +1,45 @@
+//! A sequence of orders by which ranks are as high as they must be in one pass.
+ghost use Rattle.order_closure.specs.Tables.{AreInRange};
+
+use crate::components::{flood, meet, turned};
+use crate::sequence::{Leaving, sequence_of};
+use net_core::{Atom, Memory};
+use std::alloc::Global;
+
+/// The numbers of orders in a sequence by which ranks rise, from the last back, as far as they must in one pass, unless a
+/// strict order lies within a strong component of the orders. The orders that leave a component come after all that lead to
+/// it. Within one, whose points are all at one place, a tree of orders leads from each point to the first one, and then the
+/// orders lead from there to each point. It takes time linear in the points and orders. Nothing rests on the sequence but
+/// how soon ranks fit.
+///
+/// # Errors
+///
+/// Out of memory.
+pub fn schedule_of(alloc: Global, points: u32, orders: &[Atom]) -> Result<Vec<usize>, Memory>
+    requires { AreInRange points orders.now }
+{
+    let sequence = sequence_of(alloc, points, orders)?;
+    let turned = turned(alloc, points as usize, orders)?;
+    let entering = Leaving::new(alloc, points as usize, &turned)?;
+    let mut components = vec![in alloc; None; points as usize]?;
+    let mut met = Vec::new(alloc);
+    let mut inward = Vec::new(alloc);
+    let mut schedule = Vec::new(alloc);
+    for number in sequence.iter().rev() {
+        let point = orders[*number].from as usize;
+        meet(&mut components, point, point, &mut met)?;
+        flood(
+            &entering,
+            &turned,
+            point,
+            &mut components,
+            &mut met,
+            &mut inward,
+        )?;
+        inward.reverse();
+        schedule.append(&mut inward)?;
+        schedule.push(*number)?;
+    }
+    schedule.reverse();
+    Ok(schedule)
+}
