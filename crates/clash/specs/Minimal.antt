@@ -4,13 +4,14 @@ use Rattle.std.specs.List.{Contains}
 use Rattle.std.specs.List.Sorted.{IsStrictlyIncreasing}
 use Rattle.net_core.specs.Clashes.{Clashes, IsClosedOver, IsMinimalClash, Others}
 use Rattle.net_core.specs.Entailment.{HasTimelineWith}
-use Rattle.net_core.specs.Fits.{Fits}
+use Rattle.net_core.specs.Fits.{EveryLink, Fits}
 use Rattle.net_core.specs.Least.{AreLeast, AreSpares}
 use Rattle.net_core.specs.Nets.{PlainNet, points}
 use Rattle.net_core.specs.Walks.{GoesOver, IsClosedWalk, Kept}
 use Rattle.clash.specs.declared.minimal.Clash.{Clash}
 use Rattle.net_orders.specs.Orders.{AreStepOrders}
 use Rattle.clash.specs.declared.closed_walk.ClosedWalk.{ClosedWalk}
+use Rattle.clash.specs.declared.short_walk.Through.{Through}
 
 -- the links before link k, and those up to it
 abbrev pub Before : ℕ → ℕ → Type 0
@@ -32,6 +33,12 @@ pub record IsMarkedWalk (net : PlainNet) (closed : ClosedWalk) : Type 0 where
   pub over : (k : ℕ) → k < length net.links → Kept closed.over.items k ↔ GoesOver closed.walk k
   pub short : length closed.walk ≤ 2 * points net
   pub orders : AreStepOrders net closed.walk closed.orders
+
+-- A closed walk in at most twice as many steps as there are points, and a link of the net.
+pub record IsThrough (net : PlainNet) (through : Through) : Type 0 where
+  pub link : through.link < length net.links
+  pub goes : IsClosedWalk net EveryLink through.walk
+  pub short : length through.walk ≤ 2 * points net
 
 -- a timeline fits with the links of a set but one
 abbrev pub IsSpared : PlainNet → (ℕ → Type 0) → ℕ → Type 0

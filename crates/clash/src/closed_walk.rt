@@ -106,6 +106,9 @@ impl ClosedWalk {
 
 /// Leaves out each link without which there is still a closed walk. One of them is needed: without it some timeline fits.
 ///
+/// For each link that the first walk goes over, it takes time linear in the points and orders. Each that is left out takes up
+/// to four searches more, over the spans, the links of the walk at that time and the pairs of dates.
+///
 /// # Errors
 ///
 /// Out of memory.

@@ -5,6 +5,7 @@ mod closed_walk;
 mod closure;
 mod laws;
 mod minimal;
+mod short_walk;
 mod spares;
 
 pub use closure::{CloseFault, close};

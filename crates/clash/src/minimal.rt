@@ -1,14 +1,16 @@
 //! Minimal clashes.
 ghost use Rattle.clash.specs.Minimal.{IsFirstClash, IsProvedClash, IsMarkedWalk, IsSpared, UpTo};
 ghost use Rattle.net_orders.specs.Milestones.{AreWithMilestones};
-ghost use Rattle.net_core.specs.Walks.{Kept};
+ghost use Rattle.net_core.specs.Fits.{EveryLink};
+ghost use Rattle.net_core.specs.Walks.{IsClosedWalk, Kept};
 ghost use Rattle.std.specs.List.{Contains};
 ghost use Rattle.std.specs.List.Sorted.{IsStrictlyIncreasing};
 ghost use Rattle.net_core.specs.Nets.{points};
 ghost use Rattle.order_closure.specs.Tables.{AreInRange};
-ghost use Rattle.std.specs.Prelude.{IfOk, IfSome, length, ℕ, ◌<◌, ◌≡◌, ◌↔◌};
+ghost use Rattle.std.specs.Prelude.{IfOk, IfSome, length, ℕ, ◌*◌, ◌<◌, ◌≡◌, ◌≤◌, ◌↔◌};
 
 use crate::closed_walk::{ClosedWalk, TURNS, closed_walk_over, thin};
+use crate::short_walk::{Through, short_walk};
 use crate::spares::{spares_of, spares_soon};
 use net_core::{Atom, List, Memory, Net, Ranks, Walk};
 use net_orders::{first_unsettled, orders_with_milestones};
@@ -46,16 +48,38 @@ pub fn clash_soon(
     let Some(link) = first_unsettled(alloc, net, fixed, orders, sequence)? else {
         return Ok(None);
     };
+    let few = orders_with_milestones(alloc, net)?;
+    if let Some(Through { link, walk }) = short_walk(alloc, net, link)? {
+        if let Some(clash) = clash_on(alloc, net, &few, walk, link)? {
+            return Ok(Some(clash));
+        }
+    }
     let keep = up_to(alloc, net, link)?;
     let Some(walk) = closed_walk_over(alloc, net, &keep, link)? else {
         return Ok(None);
     };
+    clash_on(alloc, net, &few, walk, link)
+}
+
+/// The clash of some links that a closed walk goes over, if a link is needed in it.
+fn clash_on(
+    alloc: Global,
+    net: &Net,
+    fixed: &[Atom],
+    walk: Walk,
+    link: u32,
+) -> Result<Option<Clash>, Memory>
+    requires fixed { AreWithMilestones net.now fixed.now }
+    requires link { link < length net.now.links }
+    requires goes { IsClosedWalk net.now EveryLink walk }
+    requires short { length walk ≤ 2 * points net.now }
+    ensures { IfOk result (λ found. IfSome found (IsProvedClash net.now)) }
+{
     let closed = ClosedWalk::new(alloc, net, walk)?;
-    let few = orders_with_milestones(alloc, net)?;
-    let Some(_) = closed.spare(alloc, net, &few, link, TURNS)? else {
+    let Some(_) = closed.spare(alloc, net, fixed, link, TURNS)? else {
         return Ok(None);
     };
-    let clash = clash_of(alloc, net, &few, closed, link)?;
+    let clash = clash_of(alloc, net, fixed, closed, link)?;
     Ok(Some(clash))
 }
 
