@@ -1,0 +1,74 @@
+//! Closed walks of few steps.
+ghost use Rattle.clash.specs.Minimal.{IsThrough};
+ghost use Rattle.std.specs.Prelude.{IfOk, IfSome, OnOk, length, ◌<◌, ◌≡◌};
+
+use crate::closed_walk::closed_walk_over;
+use net_core::{Memory, Net, Step, Walk};
+use std::alloc::Global;
+
+/// How many links closed walks are looked for over at most, besides the first.
+const TRIES: usize = 6;
+
+/// A walk from a point to itself with a strict step, and the link from which it was looked for.
+#[derive(Drop)]
+pub struct Through {
+    pub link: u32,
+    pub walk: Walk,
+}
+
+/// A closed walk of few steps: the shortest of one over this link, and of those over some links that the first one goes over.
+/// None comes only where no closed walk goes over the link.
+///
+/// # Errors
+///
+/// Out of memory.
+pub fn short_walk(alloc: Global, net: &Net, link: u32) -> Result<Option<Through>, Memory>
+    requires { link < length net.now.links }
+    ensures { IfOk result (λ found. IfSome found (IsThrough net.now)) }
+{
+    let every = vec![in alloc; true; net.links() as usize]?;
+    let Some(walk) = closed_walk_over(alloc, net, &every, link)? else {
+        return Ok(None);
+    };
+    let others = some_links(alloc, walk.as_slice())?;
+    let mut best = Through { link, walk };
+    for other in &others {
+        shorten(alloc, net, &every, *other, &mut best)?;
+    }
+    Ok(Some(best))
+}
+
+/// Takes a closed walk over a link, where it has fewer steps.
+fn shorten(
+    alloc: Global,
+    net: &Net,
+    keep: &[bool],
+    link: u32,
+    best: &mut Through,
+) -> Result<(), Memory>
+    requires keep { length keep.now ≡ length net.now.links }
+    requires best { IsThrough net.now best.old }
+    ensures { OnOk result (IsThrough net.now best.new) }
+{
+    if link >= net.links() {
+        return Ok(());
+    }
+    let Some(walk) = closed_walk_over(alloc, net, keep, link)? else {
+        return Ok(());
+    };
+    if walk.as_slice().len() < best.walk.as_slice().len() {
+        *best = Through { link, walk };
+    }
+    Ok(())
+}
+
+/// A few of the links that steps go over, far from each other.
+fn some_links(alloc: Global, steps: &[Step]) -> Result<Vec<u32>, Memory> {
+    let mut links = Vec::new(alloc);
+    for part in steps.chunks(steps.len() / TRIES + 1) {
+        if let Some(link) = part.iter().find_map(|step| step.link()) {
+            links.push(link)?;
+        }
+    }
+    Ok(links)
+}
