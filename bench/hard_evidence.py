@@ -7,7 +7,7 @@ from collections.abc import Callable
 
 from bundles import TEXTS as BUNDLES
 from bundles import repeated, text, timeline
-from hard_dates import exact_days, mixed, two_years
+from hard_dates import exact_days, mixed
 from hard_nets import ring
 from hard_shapes import EVIDENCE, Case, Shape, net
 
@@ -34,9 +34,9 @@ def overlapping_dates(size: int) -> Case:
 
 
 def entailments(size: int) -> Case:
-    """Proofs, by one step of the calendar each, that a year is before another."""
-    document = net([], 0, two_years(1024)).document
-    return Case(document, other=repeated(b"entails 0 DURING 0\nwalk 1\nspan 0\nwalk 1\nspan 0\n", size))
+    """Proofs, by one step of the calendar each, that a day is before another."""
+    document = net([], 0, exact_days(1024)).document
+    return Case(document, other=repeated(b"entails 0 BEFORE 2\nwalk 1\ncalendar 1 4\n", size))
 
 
 def long_names(size: int) -> Case:

@@ -22,6 +22,18 @@ INVERSE = {
 }
 
 
+TIES: dict[str, Callable[[int, int, int, int], bool]] = {
+    "IBEFORE": lambda start, end, other, other_end: end == other,
+    "IAFTER": lambda start, end, other, other_end: other_end == start,
+    "BEGINS": lambda start, end, other, other_end: start == other and end < other_end,
+    "BEGUN_BY": lambda start, end, other, other_end: start == other and other_end < end,
+    "ENDS": lambda start, end, other, other_end: end == other_end and other < start,
+    "ENDED_BY": lambda start, end, other, other_end: end == other_end and start < other,
+    "SIMULTANEOUS": lambda start, end, other, other_end: start == other and end == other_end,
+}
+"""The relations that put points together, and whether they hold of the starts and the ends of two intervals."""
+
+
 def chain(name: str, order: Sequence[int]) -> Links:
     """A link from each interval of a sequence to the next one."""
     return [(first, name, second) for first, second in itertools.pairwise(order)]
@@ -65,10 +77,10 @@ def ring_and_short(first: bool) -> Callable[[int], Case]:
 
 
 def random_ring(size: int) -> Case:
-    """A ring whose relations are drawn, most of them with equal ends."""
+    """A ring of drawn relations, by each of which an interval begins no later than the next one."""
     draw = random.Random(71)
-    names = ("IBEFORE", "ENDED_BY", "ENDS", "IAFTER", "BEGUN_BY", "BEGINS", "BEFORE", "DURING")
-    return net([(one, draw.choice(names), (one + 1) % size) for one in range(size)], size)
+    names = ("BEFORE", "IBEFORE", "OVERLAPS", "INCLUDES", "ENDED_BY", "BEGUN_BY")
+    return net(in_a_ring(range(size), *(draw.choice(names) for _ in range(size))), size)
 
 
 def shuffled_ring(*pattern: str) -> Callable[[int], Case]:
@@ -93,6 +105,19 @@ def clash_at(first: bool) -> Callable[[int], Case]:
         return net(short + fitting if first else fitting + short, size)
 
     return make
+
+
+def drawn_ties(size: int) -> Case:
+    """Links that are true of drawn intervals, nearly all of which share ends, and then one that turns a long way round."""
+    draw = random.Random(76)
+    starts = [draw.randrange(1 + size // 16) for _ in range(size)]
+    ends = [start + 1 + draw.randrange(8) for start in starts]
+    links: Links = []
+    while len(links) < 4 * size - 1:
+        a, b = draw.sample(range(size), 2)
+        holding = [name for name, meets in TIES.items() if meets(starts[a], ends[a], starts[b], ends[b])]
+        links += [(a, draw.choice(holding), b)] if holding else []
+    return net([*links, (starts.index(max(starts)), "BEFORE", ends.index(min(ends)))], size)
 
 
 def then_a_clash(links: Callable[[int], Links]) -> Callable[[int], Case]:
@@ -277,6 +302,7 @@ CLASHES: dict[str, tuple[Callable[[int], Case], tuple[str, ...]]] = {
     "a clash of the first links": (clash_at(True), CLASHING),
     "a clash of the last links": (clash_at(False), CLASHING),
     "a clash along starts and ends": (first_points, CLASHING),
+    "drawn links with shared ends, then a clash": (drawn_ties, CLASHING),
     "a chain by IBEFORE, then a clash": (then_a_clash(forward("IBEFORE")), CLASHING),
     "a chain by IBEFORE backward, then a clash": (then_a_clash(backward("IBEFORE")), CLASHING),
     "a star by SIMULTANEOUS, then a clash": (then_a_clash(star("SIMULTANEOUS")), CLASHING),
