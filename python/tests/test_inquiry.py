@@ -77,7 +77,8 @@ class Both(InquiryTest):
         rows = [
             (("check", "check --lint"), "a.xml", ["check"]),
             (both, "a.xml", ["solve"]),
-            (both, "c.xml", ["solve"]),
+            # Each `check` is of a keystroke that may have caused the fault.
+            (both, "c.xml", ["solve", *["check"] * 4]),
             (both, "b.xml", ["solve", "dates", "verify"]),
             (both, "t.xml", ["solve", "dates", "solve"]),
             (both, "e.xml", ["solve", "verify"]),
