@@ -241,7 +241,10 @@ def is_sure(document: bytes, warning: str, edit: Edit) -> bool:
     another notation."""
     old = document[edit.start : edit.end]
     if warning == "tag-as-text":
-        return document[edit.start - 1 : edit.start] in (b"\n", b" ", b">") and edit.text == b"<" and not old
+        before = document[max(document.rfind(b"<", 0, edit.start), 0) : edit.start]
+        is_after_tag = before[-1:] == b">" and before.count(b">") == 1
+        is_single = (is_after_tag or before[-1:] in (b"\n", b" ")) and not before.startswith(b"<!")
+        return is_single and edit.text == b"<" and not old
     if warning == "misspelled-attribute":
         return is_near(old.decode("utf-8", "replace"), edit.text.decode())
     return warning == "value-form" and OTHER_DATE.fullmatch(old) is not None

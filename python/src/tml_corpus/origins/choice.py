@@ -13,7 +13,7 @@ from tml.explaining.faults import Fault
 from tml.tags.profile import IDENTIFIERS, ROOT, TABLE, WRAPPERS, Kind
 
 from .draft import SPACE, Draft, Tag, tags_of
-from .keyboard import Slip
+from .keyboard import MEANT, Slip
 from .search import NOT_TEXT, Check, Origin, Search
 
 BARE = (ROOT, "DOC", "BODY", "DCT")
@@ -25,8 +25,9 @@ MEANT_ELSEWHERE = OTHER_RELATIONS.keys() | SAME_RELATIONS.keys() | UNCLEAR_RELAT
 MOST_COMPARED, MOST_READ = 400, 4 << 20
 """Of more origins, or of origins that are further apart so that more characters are compared, none is set aside."""
 
-BLEMISHES = ("markup in text", "slash", "bare text", "shape", "identifier", "glued", "gap")
-"""What a document would hardly have, the worst first. The last of these sets origins aside only if they differ in white space alone."""
+BLEMISHES = ("markup in text", "nested", "shape", "identifier", "gap")
+"""What a document would hardly have, the worst first. Only the first of these sets an origin aside that has another text: what is usual next
+to other tags says nothing of a letter or a sign. The last one does so only if origins differ in white space alone."""
 
 SPACED_END = re.compile(rf"{SPACE}/?>\Z")
 
@@ -141,19 +142,45 @@ class Choice:
         """The origin that is left, or those of each meaning; none if they are too far apart for a comparison."""
         if (self.high - self.low) * len(self.origins) > MOST_READ:
             return Question()
+        exchanged = {one.keystroke.start for one in self.origins if one.keystroke.slip is Slip.EXCHANGED}
         groups: dict[str, list[Origin]] = {}
         for origin in self.origins:
-            groups.setdefault(self.meaning(origin), []).append(origin)
+            if not self.is_chance(origin, exchanged):
+                groups.setdefault(self.meaning(origin), []).append(origin)
         left = list(groups.values())
         if len(self.origins) <= MOST_COMPARED:
             left = self.without_worse(left)
         best = [min(group, key=lambda origin: (self.own_blemishes(origin).total(), len(origin.stretch))) for group in left]
         blemishes = [self.own_blemishes(origin) for origin in best]
         likely = tuple(origin for origin, found in zip(best, blemishes, strict=True) if not found)
-        if len(best) == len(likely) == 1:
+        rivals = tuple(origin for origin in self.origins if len(best) == 1 and self.are_rivals(best[0], origin))
+        if len(best) == len(likely) == 1 and not rivals:
             return Restored(best[0])
+        likely += rivals
         unlikely = [origin for origin, found in zip(best, blemishes, strict=True) if found and not found["markup in text"]]
         return Question(likely, tuple(unlikely))
+
+    def is_chance(self, origin: Origin, exchanged: set[int]) -> bool:
+        """Whether two characters that may have been exchanged, by the places of the first of them, have one that a finger hardly strikes there
+        in vain, or that is by chance the one that was lost next to them."""
+        key, text = origin.keystroke, self.draft.text
+        if key.slip is Slip.STRUCK and {key.start, key.start - 1} & exchanged:
+            typed, around = text[key.start], text[max(key.start - 1, 0) : key.start] + text[key.end : key.end + 1]
+            return typed.isalnum() and typed not in around and not any(one in MEANT.get(typed, "") for one in around)
+        if key.slip is Slip.LOST and key.text.isalnum():
+            return (key.start in exchanged and text[key.start + 1] == key.text) or (
+                key.start - 2 in exchanged and text[key.start - 2] == key.text
+            )
+        return False
+
+    def are_rivals(self, one: Origin, other: Origin) -> bool:
+        """Whether a character was lost next to a key that is next to its own, by one of two origins, and that key struck for it, by the
+        other one. Whether the key is of the text then nobody knows."""
+        if {one.keystroke.slip, other.keystroke.slip} != {Slip.LOST, Slip.NEIGHBOUR} or one.keystroke.text != other.keystroke.text:
+            return False
+        lost, struck = (one, other) if one.keystroke.slip is Slip.LOST else (other, one)
+        is_near = lost.keystroke.start in (struck.keystroke.start, struck.keystroke.end)
+        return is_near and not self.own_blemishes(other)["markup in text"]
 
     def without_worse(self, groups: list[list[Origin]]) -> list[list[Origin]]:
         """The groups with the fewest blemishes of each kind, the worst kind first."""
@@ -162,11 +189,21 @@ class Choice:
         counted = [[self.blemishes(origin) for origin in group] for group in groups]
         left = list(range(len(groups)))
         for kind in BLEMISHES:
+            if kind != BLEMISHES[0] and len({self.text_of(groups[number][0]) for number in left}) > 1:
+                break
             if kind == "gap" and len({re.sub(r"\s|\\[rn]", "", self.meaning(groups[number][0])) for number in left}) > 1:
                 continue
             fewest = {number: min(one[kind] for one in counted[number]) for number in left}
             left = [number for number in left if fewest[number] == min(fewest.values())]
         return [groups[number] for number in left]
+
+    def text_of(self, origin: Origin) -> str:
+        """The text of the common stretch of an origin without white space."""
+        part, found, at = self.part(origin), [], 0
+        for tag in tags_of(part):
+            found.append(part[at : tag.start])
+            at = tag.end
+        return "".join("".join([*found, part[at:]]).split())
 
     def part(self, origin: Origin) -> str:
         """What an origin has in the stretch that is common to all."""
@@ -225,6 +262,8 @@ class Choice:
             yield from self.of_text(text, path)
             if tag.name and looks_at(tag):
                 yield from self.of_tag(tag, part, kind_of(padded[tag.start]), kind_of(padded[tag.end + 1]))
+            if tag.kind == "start" and path > 0 and tag.name in self.draft.names(path):
+                yield "nested"
             if tag.name:
                 path = self.draft.after(path, [tag])
             at = tag.end

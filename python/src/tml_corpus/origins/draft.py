@@ -224,6 +224,8 @@ class Draft:
         """Whether a tag may be one of a document, and has no attribute that is in no such tag outside of a stretch of tags."""
         if not may_be(tag.name, tag.kind, tag.pairs):
             return False
+        if any(tag[2:] == old[2:] for old in self.tags[first:last]):
+            return True
         rows = TABLE.get(tag.name)
         return rows is None or all(name in rows or self.is_elsewhere(tag.name, name, first, last) for name, _ in tag.pairs)
 

@@ -15,7 +15,7 @@ from .choice import Restored, chosen
 from .draft import Draft
 from .search import Origin
 
-NOT_IN_TEXT = (b">", b'="', b"='")
+NOT_IN_TEXT = re.compile(rb">|=\s*[\"']")
 """What a text hardly has, and a tag has that became text."""
 
 MOST_BYTES = 5 << 16
@@ -23,6 +23,9 @@ MOST_BYTES = 5 << 16
 
 MOST_TOLD = 3
 """How many keystrokes a sentence names at most."""
+
+HIDDEN_TAG = re.compile(rb"<!--[^<>]*+<(?!!)")
+"""A comment with a tag in it: either it is meant so, or the end of the comment is at fault, which may explain any fault."""
 
 WELL_FORMED = re.compile(rb"<!--.*?-->|<[^<>]*>", re.DOTALL)
 
@@ -44,7 +47,7 @@ class Found:
 
 def found_origin(program: Program, document: bytes, fault: Fault) -> Found:
     """What one keystroke explains of the first fault of a document."""
-    if fault.number == NOT_UTF8 or len(document) > MOST_BYTES:
+    if fault.number == NOT_UTF8 or len(document) > MOST_BYTES or HIDDEN_TAG.search(document):
         return Found()
     text = document.decode("utf-8")
     draft = Draft(text)
@@ -86,7 +89,7 @@ def is_one_keystroke(document: bytes, edit: Edit) -> bool:
     start = after.rfind(b"<", 0, max(after.rfind(b"<", 0, edit.start), 0))
     end = after.find(b"<", after.find(b"<", edit.start + len(edit.text)) + 1)
     stretch = after[max(start, 0) : end if end >= 0 else len(after)]
-    return not any(sign in WELL_FORMED.sub(b"", stretch) for sign in NOT_IN_TEXT)
+    return NOT_IN_TEXT.search(WELL_FORMED.sub(b"", stretch)) is None
 
 
 def told(document: bytes, edit: Edit, places: Places) -> str:
