@@ -29,6 +29,7 @@ BLEMISHES = ("markup in text", "nested", "shape", "identifier", "gap")
 """What a document would hardly have, the worst first. Only the first of these sets an origin aside that has another text: what is usual next
 to other tags says nothing of a letter or a sign. The last one does so only if origins differ in white space alone."""
 
+EDGE = re.compile("[<>\"']")
 SPACED_END = re.compile(rf"{SPACE}/?>\Z")
 
 
@@ -142,7 +143,8 @@ class Choice:
         """The origin that is left, or those of each meaning; none if they are too far apart for a comparison."""
         if (self.high - self.low) * len(self.origins) > MOST_READ:
             return Question()
-        exchanged = {one.keystroke.start for one in self.origins if one.keystroke.slip is Slip.EXCHANGED}
+        keys = [one.keystroke for one in self.origins if one.keystroke.slip is Slip.EXCHANGED]
+        exchanged = {key.start for key in keys if EDGE.search(key.text)}
         groups: dict[str, list[Origin]] = {}
         for origin in self.origins:
             if not self.is_chance(origin, exchanged):
@@ -161,8 +163,8 @@ class Choice:
         return Question(likely, tuple(unlikely))
 
     def is_chance(self, origin: Origin, exchanged: set[int]) -> bool:
-        """Whether two characters that may have been exchanged, by the places of the first of them, have one that a finger hardly strikes there
-        in vain, or that is by chance the one that was lost next to them."""
+        """Whether two characters that may have been exchanged at the edge of a tag or value, by the places of the first of them, have one that
+        a finger hardly strikes there in vain, or that is by chance the one that was lost next to them."""
         key, text = origin.keystroke, self.draft.text
         if key.slip is Slip.STRUCK and {key.start, key.start - 1} & exchanged:
             typed, around = text[key.start], text[max(key.start - 1, 0) : key.start] + text[key.end : key.end + 1]
