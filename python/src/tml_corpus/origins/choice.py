@@ -26,8 +26,8 @@ MOST_COMPARED, MOST_READ = 400, 4 << 20
 """Of more origins, or of origins that are further apart so that more characters are compared, none is set aside."""
 
 BLEMISHES = ("markup in text", "nested", "shape", "identifier", "gap")
-"""What a document would hardly have, the worst first. Only the first of these sets an origin aside that has another text: what is usual next
-to other tags says nothing of a letter or a sign. The last one does so only if origins differ in white space alone."""
+"""What a document would hardly have, the worst first. Only the first of these sets an origin aside that has another text: what is usual
+next to other tags says nothing of a letter or a sign. The last one does so only if origins differ in white space alone."""
 
 EDGE = re.compile("[<>\"']")
 SPACED_END = re.compile(rf"{SPACE}/?>\Z")
@@ -163,8 +163,8 @@ class Choice:
         return Question(likely, tuple(unlikely))
 
     def is_chance(self, origin: Origin, exchanged: set[int]) -> bool:
-        """Whether two characters that may have been exchanged at the edge of a tag or value, by the places of the first of them, have one that
-        a finger hardly strikes there in vain, or that is by chance the one that was lost next to them."""
+        """Whether an origin needs a chance if two characters may have been exchanged at the edge of a tag or value, by the places of the
+        first of them: a finger struck a far key for nothing, or the character that was lost is also the next one."""
         key, text = origin.keystroke, self.draft.text
         if key.slip is Slip.STRUCK and {key.start, key.start - 1} & exchanged:
             typed, around = text[key.start], text[max(key.start - 1, 0) : key.start] + text[key.end : key.end + 1]
