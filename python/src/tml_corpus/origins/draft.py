@@ -48,12 +48,17 @@ class Tag(NamedTuple):
         return (self.name, name) if name else None
 
 
-def end_of_other(text: str, at: int) -> int:
-    """Where a comment, a declaration or a doctype ends that begins at a `<`; 0 if none does."""
+def last_ends(text: str) -> tuple[int, int]:
+    """Where the last comment and the last declaration may end."""
+    return text.rfind("-->"), text.rfind("?>")
+
+
+def end_of_other(text: str, at: int, last: tuple[int, int]) -> int:
+    """Where a comment, a declaration or a doctype ends that begins at a `<`, if the last ends are these; 0 if none does."""
     if text.startswith("<!--", at):
-        return text.find("-->", at + 4) + 3 if at + 4 <= text.rfind("-->") else 0
+        return text.find("-->", at + 4) + 3 if at + 4 <= last[0] else 0
     if text.startswith("<?xml", at):
-        return text.find("?>", at) + 2 if at < text.rfind("?>") else 0
+        return text.find("?>", at) + 2 if at < last[1] else 0
     found = DOCTYPE.match(text, at)
     return found.end() if found is not None else 0
 
@@ -68,22 +73,22 @@ def tag_of(found: re.Match[str]) -> Tag:
 
 def tags_of(text: str) -> Iterator[Tag]:
     """The tags of a text that are well formed."""
-    at = text.find("<")
+    at, last = text.find("<"), last_ends(text)
     while at >= 0:
         found = TAG.match(text, at)
         if found is not None:
             yield tag_of(found)
-        at = text.find("<", found.end() if found is not None else end_of_other(text, at) or at + 1)
+        at = text.find("<", found.end() if found is not None else end_of_other(text, at, last) or at + 1)
 
 
 def tags_of_units(text: str) -> list[Tag] | None:
     """The tags of a text in which each `<` begins a tag, a comment, a declaration or a doctype; None if one does not."""
-    tags, at = [], text.find("<")
+    tags, at, last = [], text.find("<"), last_ends(text)
     while at >= 0:
         found = TAG.match(text, at)
         if found is not None:
             tags.append(tag_of(found))
-        end = found.end() if found is not None else end_of_other(text, at)
+        end = found.end() if found is not None else end_of_other(text, at, last)
         if not end:
             return None
         at = text.find("<", end)

@@ -23,10 +23,13 @@ NOT_TEXT = re.compile("<[!?].*?>", re.DOTALL)
 COMMENT = 2048
 """How far after the beginning of a comment its end may have been lost."""
 
-LONGEST, MOST_TRIED, MOST_WHOLE, MOST_CHECKED, MOST_BYTES = 8192, 500_000, 60_000, 300, 16 << 20
-"""How many characters there are between two tags at most if a keystroke is looked for there, how many keystrokes are tried, how many of
-them make tags of what is around, how many texts `tml` checks, and of how many characters together. If that does not do, nothing is
-decided."""
+MOST_READ, MOST_CHECKED, MOST_BYTES = 60_000_000, 300, 16 << 20
+"""How many characters are read of what is around keystrokes, which takes about a second, how many texts `tml` checks, and of how many
+characters together. If that does not do, nothing is decided."""
+
+EACH, WHOLE, KNOWN = 64, 8, 5000
+"""To try a keystroke takes as long as to read so many characters more; so many times as long if it makes tags of all that is around; and so
+many characters more if the document may have these tags."""
 
 LOST_BEGINNING = re.compile(rf"(?<![</A-Za-z])[^<>/\s]?(?:{'|'.join(TABLE)}){SPACE}[^<>]{{,1024}}>")
 """A tag without its `<`, or with another character in its place."""
@@ -166,21 +169,22 @@ class Search:
 
     def well_formed(self, kept: list[tuple[Origin, list[Tag]]]) -> Iterator[tuple[Origin, list[Tag]]]:
         """The stretches that are units, of which each tag may be one of the document, each with its tags. They are kept too."""
-        seen, whole = set(), 0
-        keys = chain.from_iterable(undone(self.draft.text, *one) for one in stretches(self.draft, self.fault))
-        for number, key in enumerate(keys):
+        seen, left = set(), MOST_READ
+        for key in chain.from_iterable(undone(self.draft.text, *one) for one in stretches(self.draft, self.fault)):
             origin = self.of_keystroke(key)
-            if number == MOST_TRIED or whole == MOST_WHOLE or (origin is not None and origin.end - origin.start > LONGEST):
+            left -= EACH if origin is None else EACH + len(origin.stretch)
+            if left < 0:
                 self.is_too_long = True
                 return
             if origin is None or origin[1:] in seen:
                 continue
             seen.add(origin[1:])
             tags = tags_of_units(origin.stretch)
-            whole += tags is not None
+            left -= 0 if tags is None else (WHOLE - 1) * len(origin.stretch)
             if tags is not None and not BAD_REFERENCE.search(origin.stretch):
                 first, last = self.draft.within(origin.start, origin.end)
                 if all(self.draft.is_known(tag, first, last) for tag in tags):
+                    left -= KNOWN
                     kept.append((origin, tags))
                     yield kept[-1]
 
