@@ -54,7 +54,8 @@ class Session(ServeTest):
         client = self.client()
         [found] = self.opened(client, document(EVENT + INSTANCE.replace("e1", "e2")))
         self.assertEqual((found["severity"], found["code"], self.stretch(found["range"])), (1, "15 UnknownReference", 'eventID="e2"'))
-        self.assertEqual(found["message"], 'no EVENT has eid="e2"; there is e1')
+        keystrokes = "write '1' for '2' at 2:74, or write '2' for '1' at 2:14"
+        self.assertEqual(found["message"], f'no EVENT has eid="e2"; there is e1; or one wrong keystroke: {keystrokes}')
         said = [(one["severity"], one["code"]) for one in self.changed(client, document(EVENT + INSTANCE), 2)]
         self.assertEqual(said, [(3, "no-creation-time"), (3, "unlinked-instance")])
         client.tell("textDocument/didClose", {"textDocument": {"uri": self.uri()}})
@@ -390,7 +391,7 @@ class Editors(CorpusTest):
             "clients: 1$",
             "attached: true true",
             'said: class="State" is not a class: .*did you mean STATE',
-            r"offered: Mend values \(1 change\)",
+            r"offered: Fix values in other letters \(1 change\)",
             'line: <EVENT eid="e1" class="STATE">x</EVENT> word',
             "then: the document has no creation time",
             r"hover: \*\*x \(e1, STATE\)",
