@@ -30,7 +30,7 @@ MANY = range(1, 2 * len(ERRORS) + 1)
 COMMANDS: tuple[tuple[str, str, Sequence[int]], ...] = (
     ("tml-corpus check --lint --clashes --more 1 --tml TML d", "not judged", MANY),
     ("tml-corpus clashes --repair --tml TML d", "not judged", MANY),
-    ("tml-corpus fix --tml TML d", "not mended", range(1, 150)),
+    ("tml-corpus fix --tml TML d", "not fixed", range(1, 150)),
     ("tml-corpus tags --tml TML d", "skipped", range(1, 100)),
     ("tml-corpus report --tml TML d -o pages", "not judged", range(1, 3300, 23)),
     ("tml-corpus agree --links --tml TML d d", "skipped", range(1, 90)),
@@ -40,7 +40,7 @@ COMMANDS: tuple[tuple[str, str, Sequence[int]], ...] = (
 )
 """Commands about all files of a folder, the words with which each says that it could not look at a file, and the numbers of the files."""
 
-LINE = re.compile(r"(?:tml-edit: )?d/(\d+)\.xml: (?:(not judged|not mended|skipped): )?(.*)")
+LINE = re.compile(r"(?:tml-edit: )?d/(\d+)\.xml: (?:(not judged|not fixed|skipped): )?(.*)")
 
 
 class BadFilesTest(CorpusTest):
