@@ -120,7 +120,7 @@ def components(graph: dict[int, list[Order]]) -> dict[int, int]:
 
 
 def strict_inside(orders: Sequence[Order]) -> list[Order]:
-    """The strict orders of which the second point leads back to the first one: there are none if all can be true."""
+    """The strict orders whose second point leads back to the first one: there are none if all can be true."""
     component = components(leaving(orders))
     return [order for order in orders if order.strict and component[order.first] == component[order.second]]
 

@@ -40,7 +40,7 @@ from measure import peak_memory, shown
 HERE = Path(__file__).resolve().parent
 MOST_MILLIONS, MOST_RATIO = 350, 3
 MILLIONS_A_SECOND = 4000
-"""About how many millions of instructions a second has, where they are not counted."""
+"""About how many millions of instructions a second has, if they are not counted."""
 LEEWAY = 0.15
 """By how much the exponent may be above what is allowed, since all that is measured has a part that does not grow."""
 SLOWER = 40

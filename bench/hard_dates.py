@@ -99,7 +99,7 @@ def and_ring(times: Times, *pattern: str, share: float = 0.5) -> Callable[[int],
 
 
 def and_free_pair(times: Times) -> Callable[[int], Case]:
-    """Times, and two instances of which nothing is known, which are asked for."""
+    """Times, and two instances without a link, which the query is about."""
 
     def make(size: int) -> Case:
         case = net([], 2, times(size - 2))
@@ -180,12 +180,12 @@ def anyhow(size: int) -> Sequence[int]:
 
 
 def closed_lengths(size: int) -> Case:
-    """Durations, each of which meets the next, and the last one the first one."""
+    """Durations: each meets the next, and the last one meets the first one."""
     return net(chain("IBEFORE", [*range(size), 0]), 0, lengths(size))
 
 
 def slow_cycle(size: int) -> Case:
-    """Two chains of durations between two instances, of which one is a second longer."""
+    """Two chains of durations between two instances, one of them a second longer."""
     half = size // 2 - 1
     long = ['type="DURATION" value="P1D"'] * (half - 1) + ['type="DURATION" value="PT86401S"']
     short = ['type="DURATION" value="P1D"'] * half
@@ -218,7 +218,7 @@ def with_selves(case: Callable[[int], Case]) -> Callable[[int], Case]:
 
 
 def at_most(size: int) -> Case:
-    """Durations that last at most so long, each of which includes the next, and instances between them in a chain."""
+    """Durations that last at most so long: each includes the next, with instances between them in a chain."""
     half = size // 2
     some = [f'type="DURATION" mod="EQUAL_OR_LESS" value="PT{10 * (half - one)}S"' for one in range(half)]
     links = chain("INCLUDES", range(half)) + chain("IBEFORE", range(half, 2 * half))

@@ -40,7 +40,7 @@ def entailments(size: int) -> Case:
 
 
 def long_names(size: int) -> Case:
-    """Proofs without a step, each of which is shown with two names of 64 bytes."""
+    """Proofs without a step, each with two names of 64 bytes."""
     return Case(net([], 1, length=64).document, other=repeated(b"entails 0 DURING 0\nwalk 0\nwalk 0\n", size))
 
 
@@ -64,18 +64,18 @@ def clashes_of_a_ring(size: int) -> Case:
 
 
 def bad_last_line(size: int) -> Case:
-    """Claims of one interval, of which the last one is cut off."""
+    """Claims of one interval. The last one is cut off."""
     document = net([], 1).document
     return Case(document, other=repeated(b"timeline 1\nat 0 1\n", size).removesuffix(b"end\n"))
 
 
 def refused_first(size: int) -> Case:
-    """Claims of which the first one is refused."""
+    """Claims. The checker refuses the first one."""
     return Case(net([], 2).document, other=repeated(b"timeline 1\nat 0 1\n", size))
 
 
 def refused_last(size: int) -> Case:
-    """Claims of which the last one is refused, since it breaks the calendar of 1,024 times."""
+    """Claims. The checker refuses the last one, since it breaks the calendar of 1,024 times."""
     case = days_apart(size)
     right = timeline([(one, one + 1) for one in range(1024)])
     wrong = timeline([(one, one + 1) for one in range(1023)] + [(1022, 1024)])

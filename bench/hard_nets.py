@@ -77,7 +77,7 @@ def ring_and_short(first: bool) -> Callable[[int], Case]:
 
 
 def random_ring(size: int) -> Case:
-    """A ring of drawn relations, by each of which an interval begins no later than the next one."""
+    """A ring of drawn relations: by each an interval begins no later than the next one."""
     draw = random.Random(71)
     names = ("BEFORE", "IBEFORE", "OVERLAPS", "INCLUDES", "ENDED_BY", "BEGUN_BY")
     return net(in_a_ring(range(size), *(draw.choice(names) for _ in range(size))), size)
@@ -108,7 +108,7 @@ def clash_at(first: bool) -> Callable[[int], Case]:
 
 
 def drawn_ties(size: int) -> Case:
-    """Links that are true of drawn intervals, nearly all of which share ends, and then one that turns a long way round."""
+    """Links that are true of drawn intervals, nearly all with shared ends, and then one that turns a long way round."""
     draw = random.Random(76)
     starts = [draw.randrange(1 + size // 16) for _ in range(size)]
     ends = [start + 1 + draw.randrange(8) for start in starts]
@@ -166,7 +166,7 @@ def repeated(links: Callable[[int], Links]) -> Callable[[int], Links]:
 
 
 def class_of_overlaps(size: int) -> Links:
-    """A class of intervals that are one, and as many links as there may be from them to others, each of which they overlap."""
+    """A class of intervals that are one, and as many links as there may be from them to others, which they overlap."""
     members = size * 400 // 1024
     others = size - members
     links = chain("SIMULTANEOUS", range(members))
@@ -226,7 +226,7 @@ def dense(name: str) -> Callable[[int], Links]:
 
 
 def free_pair(size: int) -> Case:
-    """A chain, and two intervals of which nothing is known, which are asked for."""
+    """A chain, and two intervals without a link, which the query is about."""
     case = net(chain("BEFORE", range(size - 2)), size)
     return replace(case, asked=(f"i{size - 2}", "BEFORE", f"i{size - 1}"))
 
