@@ -132,7 +132,7 @@ class Statuses(CorpusTest):
     def test_interrupted(self) -> None:
         for number in range(400):
             self.write(f"{number:03}.xml", BAD)
-        child = self.start("check", "--jobs", "2", ".", tml=self.fake(f'{HELD}\nexec {TML} "$@"'))
+        child = self.start("check", "--no-explain", "--jobs", "2", ".", tml=self.fake(f'{HELD}\nexec {TML} "$@"'))
         first = os.read(needed(child.stdout).fileno(), 1)
         interrupt(child)
         self.write("go", "")

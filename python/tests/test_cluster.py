@@ -137,9 +137,9 @@ class OnACluster(ClusterTest):
         self.assertEqual(lines[1], "40 files: 39 accepted, 0 with a fault, 1 not judged")
 
     def test_interrupted(self) -> None:
-        for number in range(300):
+        for number in range(600):
             self.write(f"{number:03}.xml", document("<EVENT/>"))
-        child = self.start("check", "--cluster", self.address, ".", tml=self.script(HELD), python=WITH_PACKAGES)
+        child = self.start("check", "--no-explain", "--cluster", self.address, ".", tml=self.script(HELD), python=WITH_PACKAGES)
         first = os.read(needed(child.stdout).fileno(), 1)
         child.send_signal(signal.SIGINT)
         out, err = child.communicate(timeout=PATIENCE)
@@ -147,8 +147,8 @@ class OnACluster(ClusterTest):
         self.assertEqual((child.returncode, err), (130, b""))
         named = [line.split(":")[0] for line in lines if "error" in line]
         self.assertEqual(named, [f"./{number:03}.xml" for number in range(len(named))])
-        self.assertEqual(lines[-1], f"interrupted: {len(named)} of 300 files were looked at")
-        self.assertTrue(0 < len(named) < 300, len(named))
+        self.assertEqual(lines[-1], f"interrupted: {len(named)} of 600 files were looked at")
+        self.assertTrue(0 < len(named) < 600, len(named))
         # The tasks are cancelled: a worker ends what it had begun, and no more is asked. All files together would be 600 questions. Both
         # workers have ended that once both work on later tasks, which this program waits for.
         self.write("go", "")
