@@ -23,11 +23,11 @@ NOT_TEXT = re.compile("<[!?].*?>", re.DOTALL)
 COMMENT = 2048
 """How far after the beginning of a comment its end may have been lost."""
 
-MOST_READ, MOST_CHECKED, MOST_BYTES = 60_000_000, 300, 16 << 20
-"""How many characters are read of what is around keystrokes, which takes about a second, how many texts `tml` checks, and of how many
+MOST_READ, MOST_CHECKED, MOST_BYTES = 100_000_000, 300, 16 << 20
+"""How many characters are read of what is around keystrokes, which takes one or two seconds, how many texts `tml` checks, and of how many
 characters together. If that does not do, nothing is decided."""
 
-EACH, WHOLE, KNOWN = 64, 8, 5000
+EACH, WHOLE, KNOWN = 64, 8, 2000
 """To try a keystroke takes as long as to read so many characters more; so many times as long if it makes tags of all that is around; and so
 many characters more if the document may have these tags."""
 
