@@ -13,7 +13,8 @@ ghost use Rattle.std.specs.Prelude.{IfErr, IfOk, IfSome, length, ◌<◌, ◌≤
 use crate::minimal::{Clash, clash_soon, clash_up_to};
 use net_core::{Atom, Memory, Net};
 use net_orders::{
-    add_in_sequence, add_links, add_orders, all_orders, fixed_orders, has_strict_cycle, sequence_of,
+    add_in_sequence, add_links, add_orders, all_orders, fixed_orders, has_strict_cycle, schedule_of,
+    sequence_of,
 };
 use order_closure::Closed;
 use std::alloc::Global;
@@ -93,13 +94,14 @@ fn in_sequence(alloc: Global, net: &Net, fixed: &[Atom]) -> Result<Option<Closed
     let points = 2 * net.intervals();
     let orders = all_orders(alloc, net, fixed)?;
     let sequence = sequence_of(alloc, points, &orders)?;
-    if has_strict_cycle(alloc, points, &orders, &sequence)? {
-        let Some(clash) = clash_soon(alloc, net, fixed.len(), &orders, &sequence)? else {
+    let schedule = schedule_of(alloc, points, &orders, &sequence)?;
+    if has_strict_cycle(&orders, &schedule.components) {
+        let Some(clash) = clash_soon(alloc, net, fixed.len(), &orders, &sequence.numbers)? else {
             return Ok(None);
         };
         return Err(CloseFault::Clash(clash));
     }
-    let table = closure_of(alloc, points, &orders, &sequence)?;
+    let table = closure_of(alloc, points, &orders, &schedule.numbers)?;
     Ok(table)
 }
 

@@ -5,6 +5,8 @@ use Rattle.net_core.specs.declared.atom.Atom.{Atom}
 use Rattle.order_closure.specs.Tables.{AreInRange}
 use Rattle.net_orders.specs.declared.sequence.Leaving.{Leaving}
 use Rattle.net_orders.specs.declared.sequence.Visit.{Visit}
+use Rattle.net_orders.specs.declared.sequence.Sequence.{Sequence}
+use Rattle.net_orders.specs.declared.schedule.Schedule.{Schedule}
 
 -- a number is one of n orders, if there is one
 abbrev pub IsOrderNumber : ℕ → Option ℕ → Type 0
@@ -30,3 +32,13 @@ pub record AreMetAlong (n : ℕ) (leaving : Leaving) (orders : List Atom) (met :
   pub of_orders : length leaving.before.items ≡ length orders
   pub in_range : AreInRange n orders
   pub points : ArePoints n met
+
+-- A sequence of some orders of n points: numbers of them, and one for each point.
+pub record IsSequence (n : ℕ) (orders : List Atom) (sequence : Sequence) : Type 0 where
+  pub numbers : All (λ k. k < length orders) sequence.numbers.items
+  pub left : length sequence.left.items ≡ n
+
+-- A schedule of some orders of n points: numbers of them, and a component for each point, if it has one.
+pub record IsSchedule (n : ℕ) (orders : List Atom) (schedule : Schedule) : Type 0 where
+  pub numbers : All (λ k. k < length orders) schedule.numbers.items
+  pub components : length schedule.components.items ≡ n

@@ -1,4 +1,4 @@
-//! Whether orders have a closed walk.
+//! The strong components of orders (Kosaraju and Sharir), in a time linear in them.
 ghost use Rattle.net_orders.specs.Sequence.{AreMetAlong, ArePoints};
 ghost use Rattle.order_closure.specs.Tables.{AreInRange};
 ghost use Rattle.std.specs.List.{All};
@@ -8,62 +8,18 @@ use crate::sequence::Leaving;
 use net_core::{Atom, Memory};
 use std::alloc::Global;
 
-/// Whether a strict order leads from a point to one from which orders lead back, and so no timeline satisfies all orders. It
-/// is found by the strong components of the orders (Kosaraju and Sharir), in a time linear in them. Nothing rests on the
-/// answer but which way a closure is looked for first.
-///
-/// # Errors
-///
-/// Out of memory.
-pub fn has_strict_cycle(
-    alloc: Global,
-    points: u32,
-    orders: &[Atom],
-    sequence: &[usize],
-) -> Result<bool, Memory>
-    requires in_range { AreInRange points orders.now }
-    requires sequence { All (λ k. k < length orders.now) sequence.now }
+/// Whether a strict order leads from a point to one from which orders lead back, and so no timeline satisfies all orders.
+/// Nothing rests on the answer but which way a closure is looked for first.
+pub fn has_strict_cycle(orders: &[Atom], components: &[Option<usize>]) -> bool
+    requires { AreInRange (length components.now) orders.now }
 {
-    let components = components_of(alloc, points as usize, orders, sequence)?;
     for order in orders {
         let (from, to) = (order.from as usize, order.to as usize);
         if order.strict && components[from].is_some() && components[from] == components[to] {
-            return Ok(true);
+            return true;
         }
     }
-    Ok(false)
-}
-
-/// For each point that an order leaves the strong component that it is in, by the first of its points that was met. In the
-/// sequence the orders of one point of a component, the one that is left last, come after those of all that it leads to.
-fn components_of(
-    alloc: Global,
-    points: usize,
-    orders: &[Atom],
-    sequence: &[usize],
-) -> Result<Vec<Option<usize>>, Memory>
-    requires in_range { AreInRange points orders.now }
-    requires sequence { All (λ k. k < length orders.now) sequence.now }
-    ensures { IfOk result (λ components. length components.items ≡ points) }
-{
-    let turned = turned(alloc, points, orders)?;
-    let entering = Leaving::new(alloc, points, &turned)?;
-    let mut components = vec![in alloc; None; points]?;
-    let mut met = Vec::new(alloc);
-    let mut inward = Vec::new(alloc);
-    for number in sequence.iter().rev() {
-        let point = orders[*number].from as usize;
-        meet(&mut components, point, point, &mut met)?;
-        flood(
-            &entering,
-            &turned,
-            point,
-            &mut components,
-            &mut met,
-            &mut inward,
-        )?;
-    }
-    Ok(components)
+    false
 }
 
 /// The orders the other way round.

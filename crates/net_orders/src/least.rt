@@ -29,7 +29,7 @@ pub fn least_timeline(alloc: Global, net: &Net) -> Result<Option<Ranks>, Memory>
     let orders = all_orders(alloc, net, &fixed)?;
     let sequence = sequence_of(alloc, points, &orders)?;
     let mut ranks = vec![in alloc; 0u32; points as usize]?;
-    if raise_in_turns(&mut ranks, &orders, &sequence, TURNS) {
+    if raise_in_turns(&mut ranks, &orders, &sequence.numbers, TURNS) {
         Ok(Some(Ranks::from_vec(ranks)))
     } else {
         Ok(None)

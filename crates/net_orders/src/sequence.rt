@@ -1,30 +1,54 @@
-//! A sequence of orders in which few rows of a table change.
-ghost use Rattle.net_orders.specs.Sequence.{AreLeavingLists, IsVisit};
+//! A sequence of orders, by a search along them.
+ghost use Rattle.net_orders.specs.Sequence.{AreLeavingLists, IsSequence, IsVisit};
+ghost use Rattle.net_core.specs.Atoms.{IsInRange};
 ghost use Rattle.order_closure.specs.Tables.{AreInRange};
 ghost use Rattle.std.specs.List.{All};
 ghost use Rattle.std.specs.Prelude.{IfOk, OnOk, length, ◌<◌, ◌≡◌};
 
 use net_core::{Atom, Memory};
 use std::alloc::Global;
+use std::cmp::Reverse;
 
-/// The numbers of orders, mostly in a sequence in which all orders that leave the second point of an order come before
-/// it: the row of that point is then whole when the order is added, and few other rows are to be raised by it. It is found
-/// by a search along the orders, depth first. What is added in whatever sequence has the same closure.
+/// The numbers of orders, mostly in a sequence in which all orders that leave the second point of an order come before it.
+#[derive(Drop)]
+pub struct Sequence {
+    pub numbers: Vec<usize>,
+    /// For each point how many orders the sequence had, and one, when the search left the point for good: those that leave
+    /// the point are the last of them. It is 0 before that.
+    left: Vec<usize>,
+}
+
+impl Sequence {
+    /// Whether an order leads back to a point that was left later, or to where it comes from: then orders lead from there to
+    /// this one, and all of their points are in one strong component.
+    pub fn leads_back(&self, order: Atom) -> bool
+        requires { IsInRange (length self.now.left.items) order }
+    {
+        self.left[order.from as usize] <= self.left[order.to as usize]
+    }
+}
+
+/// The numbers of orders, mostly in a sequence in which all orders that leave the second point of an order come before it. Of
+/// the orders that leave one point those to points that were left last come first, since the others may follow from these. It
+/// is found by a search along the orders, depth first. What is added in whatever sequence has the same closure.
 ///
 /// # Errors
 ///
 /// Out of memory.
-pub fn sequence_of(alloc: Global, points: u32, orders: &[Atom]) -> Result<Vec<usize>, Memory>
+pub fn sequence_of(alloc: Global, points: u32, orders: &[Atom]) -> Result<Sequence, Memory>
     requires { AreInRange points orders.now }
-    ensures { IfOk result (λ sequence. All (λ k. k < length orders.now) sequence.items) }
+    ensures { IfOk result (IsSequence points orders.now) }
 {
     let leaving = Leaving::new(alloc, points as usize, orders)?;
     let mut seen = vec![in alloc; false; points as usize]?;
     let mut path = Vec::new(alloc);
-    let mut sequence = Vec::new(alloc);
+    let mut sequence = Sequence {
+        numbers: Vec::new(alloc),
+        left: vec![in alloc; 0usize; points as usize]?,
+    };
     for point in 0..points as usize {
         enter(&leaving, point, &mut seen, &mut path)?;
-        descend(&leaving, orders, &mut seen, &mut path, &mut sequence)?;
+        descend(alloc, &leaving, orders, &mut seen, &mut path, &mut sequence)?;
     }
     Ok(sequence)
 }
@@ -89,23 +113,24 @@ fn enter(
     Ok(())
 }
 
-/// Follows orders to points that were not entered, and back where a point has no more. A step leaves a point by an order,
-/// or for good: so there are no more steps than points and orders.
+/// Follows orders to points that were not entered, and back if a point has no more. A step leaves a point by an order, or for
+/// good: so there are no more steps than points and orders.
 fn descend(
+    alloc: Global,
     leaving: &Leaving,
     orders: &[Atom],
     seen: &mut [bool],
     path: &mut Vec<Visit>,
-    sequence: &mut Vec<usize>,
+    sequence: &mut Sequence,
 ) -> Result<(), Memory>
     requires leaving { AreLeavingLists leaving.now }
     requires orders { length leaving.now.before.items ≡ length orders.now }
     requires in_range { AreInRange (length leaving.now.last.items) orders.now }
     requires seen { length seen.old ≡ length leaving.now.last.items }
     requires path { All (IsVisit leaving.now) path.old.items }
-    requires sequence { All (λ k. k < length orders.now) sequence.old.items }
+    requires sequence { IsSequence (length leaving.now.last.items) orders.now sequence.old }
     ensures path { OnOk result (All (IsVisit leaving.now) path.new.items) }
-    ensures sequence { OnOk result (All (λ k. k < length orders.now) sequence.new.items) }
+    ensures sequence { OnOk result (IsSequence (length leaving.now.last.items) orders.now sequence.new) }
 {
     let most = leaving.last.len() + orders.len();
     'descent: for _ in 0..most {
@@ -114,7 +139,7 @@ fn descend(
         };
         match visit.next {
             Some(k) => follow(leaving, orders, visit.point, k, seen, path)?,
-            None => push_leaving(leaving, visit.point, sequence)?,
+            None => leave(alloc, leaving, orders, visit.point, sequence)?,
         }
     }
     Ok(())
@@ -143,17 +168,45 @@ fn follow(
     enter(leaving, orders[k].to as usize, seen, path)
 }
 
-/// Appends the orders that leave a point.
-fn push_leaving(leaving: &Leaving, point: usize, sequence: &mut Vec<usize>) -> Result<(), Memory>
+/// Leaves a point for good: appends the orders that leave it, first those to points that were left last.
+fn leave(
+    alloc: Global,
+    leaving: &Leaving,
+    orders: &[Atom],
+    point: usize,
+    sequence: &mut Sequence,
+) -> Result<(), Memory>
+    requires leaving { AreLeavingLists leaving.now }
+    requires orders { length leaving.now.before.items ≡ length orders.now }
+    requires point { point < length leaving.now.last.items }
+    requires sequence { IsSequence (length leaving.now.last.items) orders.now sequence.old }
+    ensures { OnOk result (IsSequence (length leaving.now.last.items) orders.now sequence.new) }
+{
+    let mut own = numbers_leaving(alloc, leaving, point)?;
+    let left = &sequence.left;
+    own.sort_unstable_by_key(|number| Reverse(left_to(left, orders, *number)));
+    sequence.numbers.append(&mut own)?;
+    sequence.left[point] = sequence.numbers.len() + 1;
+    Ok(())
+}
+
+/// When the search left the point that the order of a number leads to.
+fn left_to(left: &[usize], orders: &[Atom], number: usize) -> Option<usize> {
+    let order = orders.get(number)?;
+    left.get(order.to as usize).copied()
+}
+
+/// The numbers of the orders that leave a point.
+fn numbers_leaving(alloc: Global, leaving: &Leaving, point: usize) -> Result<Vec<usize>, Memory>
     requires leaving { AreLeavingLists leaving.now }
     requires point { point < length leaving.now.last.items }
-    requires sequence { All (λ k. k < length leaving.now.before.items) sequence.old.items }
-    ensures { OnOk result (All (λ k. k < length leaving.now.before.items) sequence.new.items) }
+    ensures { IfOk result (λ numbers. All (λ k. k < length leaving.now.before.items) numbers.items) }
 {
+    let mut numbers = Vec::new(alloc);
     let mut next = leaving.last[point];
     while let Some(k) = next {
-        sequence.push(k)?;
+        numbers.push(k)?;
         next = leaving.before[k];
     }
-    Ok(())
+    Ok(numbers)
 }

@@ -12,6 +12,7 @@ use crate::least::raise_in_turns;
 use crate::orders::{Order, orders_but};
 use crate::raising::{raise_all, raise_orders, raise_orders_back};
 use crate::schedule::schedule_of;
+use crate::sequence::sequence_of;
 use net_core::{Atom, MAX_POINTS, Memory};
 use std::alloc::Global;
 
@@ -111,8 +112,9 @@ fn settle_at_once(
 {
     let points = ranks.len();
     let left = orders_but(alloc, points, orders, fixed, omitted)?;
-    let schedule = schedule_of(alloc, points as u32, &left)?;
-    Ok(raise_in_turns(ranks, &left, &schedule, 1))
+    let sequence = sequence_of(alloc, points as u32, &left)?;
+    let schedule = schedule_of(alloc, points as u32, &left, &sequence)?;
+    Ok(raise_in_turns(ranks, &left, &schedule.numbers, 1))
 }
 
 /// Raises ranks once by each order but those of one link: forward from a place on and then round to it, or the same way

@@ -8,4 +8,5 @@ invariant-loop-number l = record {
   size : length l.components.items ≡ l.points;
   met : ArePoints l.points l.met.items;
   inward : All (λ k. k < length l.orders) l.inward.items;
+  numbers : All (λ k. k < length l.orders) l.numbers.items;
 }
