@@ -10,7 +10,7 @@ use Rattle.net_core.specs.Nets.{PlainNet, intervals, points}
 use Rattle.net_core.specs.Relations.{Timeline}
 use Rattle.net_core.specs.declared.atom.Atom.{Atom}
 use Rattle.order_closure.specs.Tables.{AreInRange, SatisfiesAll}
-use Rattle.net_orders.specs.Steps.{KeepsDates}
+use Rattle.net_orders.specs.Steps.{KeepsDates, KeepsSpans}
 use Rattle.net_orders.specs.Orders.{AllAreTrueBut, AreOrdersBelow, IsTrueBut, AppendsOrders, is_this_link}
 use Rattle.net_orders.specs.declared.orders.Order.{Order}
 use Rattle.net_orders.proofs.LinkAtoms.{no_atom}
@@ -103,18 +103,16 @@ IsFixedBelow n t = Below (λ i u. StartsFirst u i) n t
 
 -- one interval more
 pub fixed_more : (net : PlainNet) (i : ℕ) (fixed next : List Atom) → i < intervals net → next ≡ fixed ++ before (2 * i) (2 * i + 1) ∷ []
-    → AreInRange (points net) fixed → ((t : Timeline) → SatisfiesAll fixed t ↔ (IsFixedBelow i t × KeepsDates net t))
-    → AreInRange (points net) next × ((t : Timeline) → SatisfiesAll next t ↔ (IsFixedBelow (i + 1) t × KeepsDates net t))
-fixed_more net i fixed next within is in_range exact =
+    → AreInRange (points net) fixed → ((t : Timeline) → SatisfiesAll fixed t → IsFixedBelow i t) → ((t : Timeline) → KeepsSpans net t → SatisfiesAll fixed t ↔ KeepsDates net t)
+    → AreInRange (points net) next × ((t : Timeline) → SatisfiesAll next t → IsFixedBelow (i + 1) t) × ((t : Timeline) → KeepsSpans net t → SatisfiesAll next t ↔ KeepsDates net t)
+fixed_more net i fixed next within is in_range spans dates =
     let span = before (2 * i) (2 * i + 1) in
-    subst (λ (xs : List Atom). AreInRange (points net) xs × ((t : Timeline) → SatisfiesAll xs t ↔ (IsFixedBelow (i + 1) t × KeepsDates net t))) (sym is) (
+    subst (λ (xs : List Atom). AreInRange (points net) xs × ((t : Timeline) → SatisfiesAll xs t → IsFixedBelow (i + 1) t) × ((t : Timeline) → KeepsSpans net t → SatisfiesAll xs t ↔ KeepsDates net t)) (sym is) (
       All-push (IsInRange (points net)) fixed span in_range (omega arith, omega arith),
-      λ t. (
-        λ all.
-            let both = (all_parts (Satisfies t) fixed (span ∷ [])).0 all in
-            let old = (exact t).0 both.0 in
-            (below_more (λ j. StartsFirst t j) i old.0 (both.1 0 span (omega arith)), old.1),
-        λ both. All-push (Satisfies t) fixed span ((exact t).1 (λ j lt. both.0 j (omega arith), both.1)) (both.0 i (omega arith)),
+      λ t all. let both = (all_parts (Satisfies t) fixed (span ∷ [])).0 all in below_more (λ j. StartsFirst t j) i (spans t both.0) (both.1 0 span (omega arith)),
+      λ t first. (
+        λ all. (dates t first).0 ((all_parts (Satisfies t) fixed (span ∷ [])).0 all).0,
+        λ keeps. All-push (Satisfies t) fixed span ((dates t first).1 keeps) (first i (omega arith)),
       ),
     )
 

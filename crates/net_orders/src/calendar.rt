@@ -1,24 +1,27 @@
 //! The orders of the calendar.
-ghost use Rattle.net_orders.specs.Dates.{ExtendsOrders, FollowsAll, FollowsDate, IsFixedDate, IsNextUpper, PutsLastBefore};
-ghost use Rattle.net_orders.specs.Steps.{KeepsDates};
-ghost use Rattle.net_core.specs.Nets.{points};
+ghost use Rattle.net_orders.specs.Dates as spec;
+ghost use Rattle.net_orders.specs.Dates.{ExtendsOrders, ExtendsWithSpans, FollowsAll, FollowsDate, IsNextUpper, PutsLastBefore};
+ghost use Rattle.net_orders.specs.Steps.{KeepsDates, KeepsSpans};
+ghost use Rattle.net_core.specs.Nets.{lower, points};
 ghost use Rattle.net_core.specs.Relations.{Timeline};
 ghost use Rattle.net_core.specs.Steps.{calendar_order};
 ghost use Rattle.order_closure.specs.Tables.{AreInRange, SatisfiesAll};
-ghost use Rattle.std.specs.Prelude.{IfOk, IsTrue, OnOk, Some, ℕ, ◌<◌, ◌≡◌, ◌↔◌};
+ghost use Rattle.std.specs.Prelude.{IfOk, IsSomeAnd, IsTrue, OnOk, Some, ℕ, ◌<◌, ◌≡◌, ◌≤ℤ◌, ◌↔◌};
 
 use net_core::{Atom, Memory, Net};
 use std::alloc::Global;
 use walks::{Date, dates_from, lowers_of, uppers_of};
 
-/// The orders of the calendar, without nearly all that follow from others: they say what all of them say.
+/// Orders of the calendar from which all of them follow in timelines in which each interval starts before it ends. Those of a
+/// point go to the dates that begin from it on, before the first of these has ended: one each for dates that follow each other,
+/// and for dates that overlap at most the pairs that meet this way.
 ///
 /// # Errors
 ///
 /// Out of memory.
 pub fn calendar_orders(alloc: Global, net: &Net) -> Result<Vec<Atom>, Memory>
     ensures in_range { IfOk result (λ orders. AreInRange (points net.now) orders.items) }
-    ensures exact { IfOk result (λ orders. (t : Timeline) → SatisfiesAll orders.items t ↔ KeepsDates net.now t) }
+    ensures exact { IfOk result (λ orders. (t : Timeline) → KeepsSpans net.now t → SatisfiesAll orders.items t ↔ KeepsDates net.now t) }
 {
     let uppers = uppers_of(alloc, net)?;
     let lowers = lowers_of(alloc, net)?;
@@ -34,7 +37,7 @@ pub fn calendar_orders(alloc: Global, net: &Net) -> Result<Vec<Atom>, Memory>
 }
 
 /// Pushes orders so that all points with lower numbers follow a point with an upper number. `last` is the last fixed
-/// point before it: where its number is the same, they follow this one as they follow that one.
+/// point before it: if its number is the same, they follow this one as they follow that one.
 fn push_orders(
     net: &Net,
     upper: Date,
@@ -43,8 +46,8 @@ fn push_orders(
     orders: &mut Vec<Atom>,
 ) -> Result<(), Memory>
     requires next { IsNextUpper net.now lowers.now orders.old.items upper }
-    requires last { PutsLastBefore lowers.now orders.old.items last }
-    ensures { OnOk result (ExtendsOrders (points net.now) (FollowsAll lowers.now upper) orders.old.items orders.new.items) }
+    requires last { PutsLastBefore net.now lowers.now orders.old.items last }
+    ensures { OnOk result (ExtendsWithSpans net.now (FollowsAll lowers.now upper) orders.old.items orders.new.items) }
 {
     match last {
         Some(fixed) if fixed.number == upper.number => push_order(upper, fixed, orders),
@@ -52,8 +55,8 @@ fn push_orders(
     }
 }
 
-/// Pushes the orders of a point with an upper number and the points with lower numbers, up to the first fixed point that
-/// comes after it: the rest follow that one.
+/// Pushes the orders of a point with an upper number and the points with lower numbers from it on, before the first end of
+/// one of these: the rest follow that end.
 fn push_orders_from(
     net: &Net,
     upper: Date,
@@ -61,19 +64,54 @@ fn push_orders_from(
     orders: &mut Vec<Atom>,
 ) -> Result<(), Memory>
     requires { IsNextUpper net.now lowers.now orders.old.items upper }
-    ensures { OnOk result (ExtendsOrders (points net.now) (FollowsAll lowers.now upper) orders.old.items orders.new.items) }
+    ensures { OnOk result (ExtendsWithSpans net.now (FollowsAll lowers.now upper) orders.old.items orders.new.items) }
 {
     let later = dates_from(lowers, upper.number);
+    let mut first_end = None;
     for lower in later {
-        push_order(upper, *lower, orders)?;
-        if upper.number < lower.number && is_fixed(net, *lower) {
+        if has_ended(first_end, lower.number) {
             return Ok(());
         }
+        push_order(upper, *lower, orders)?;
+        first_end = earlier(first_end, end_after(net, lower.point, upper.number));
     }
     Ok(())
 }
 
-/// Pushes the order of a point with an upper number and one with a lower number, where the calendar orders them and they
+/// Whether there is an end, and this number is not before it.
+fn has_ended(end: Option<i64>, number: i64) -> bool
+    ensures { IsTrue result ↔ IsSomeAnd end (λ x. x ≤ℤ number) }
+{
+    end.is_some_and(|x| x <= number)
+}
+
+/// The lesser of two numbers, of those that there are.
+fn earlier(one: Option<i64>, other: Option<i64>) -> Option<i64>
+    ensures { result ≡ spec.earlier one other }
+{
+    match (one, other) {
+        (Some(x), Some(y)) => Some(x.min(y)),
+        _ => one.or(other),
+    }
+}
+
+/// The first number after this one by which a point, or the interval that it is of, has ended.
+fn end_after(net: &Net, point: u32, number: i64) -> Option<i64>
+    requires { point < points net.now }
+    ensures { result ≡ spec.end_after net.now point number }
+{
+    let end = 2 * (point / 2) + 1;
+    only_after(number, net.upper(point)).or(only_after(number, net.upper(end)))
+}
+
+/// A number, if it is after this one.
+fn only_after(number: i64, end: Option<i64>) -> Option<i64>
+    ensures { result ≡ spec.only_after number end }
+{
+    end.filter(|end| number < *end)
+}
+
+/// Pushes the order of a point with an upper number and one with a lower number, if the calendar orders them and they
 /// are not the same.
 fn push_order(upper: Date, lower: Date, orders: &mut Vec<Atom>) -> Result<(), Memory>
     ensures { OnOk result ((n : ℕ) → AreInRange n orders.old.items → upper.point < n → lower.point < n
@@ -89,15 +127,15 @@ fn push_order(upper: Date, lower: Date, orders: &mut Vec<Atom>) -> Result<(), Me
     Ok(())
 }
 
-/// Whether a point has this number on both sides.
+/// Whether a point with this upper number has it as its lower number too.
 fn is_fixed(net: &Net, date: Date) -> bool
     requires { date.point < points net.now }
-    ensures { IsTrue result ↔ IsFixedDate net.now date }
+    ensures { IsTrue result ↔ (lower net.now date.point ≡ Some date.number) }
 {
-    net.lower(date.point) == Some(date.number) && net.upper(date.point) == Some(date.number)
+    net.lower(date.point) == Some(date.number)
 }
 
-/// The order of a point with an upper number and one with a lower number, where the calendar gives one.
+/// The order of a point with an upper number and one with a lower number, if the calendar gives one.
 fn order_of(upper: Date, lower: Date) -> Option<Atom>
     ensures { result ≡ calendar_order (Some upper.number) (Some lower.number) upper.point lower.point }
 {

@@ -4,7 +4,7 @@ use Rattle.net_core.specs.Nets.{points, upper}
 use Rattle.walks.specs.Dates.{AreDates, AreDescending, IsDateOfPoint}
 use Rattle.walks.specs.declared.dates.Date.{Date}
 use Rattle.walks.proofs.DateLaws.{no_date}
-use Rattle.net_orders.specs.Dates.{ExtendsOrders, FollowsAll, IsNextUpper, PutsLastBefore}
+use Rattle.net_orders.specs.Dates.{ExtendsWithSpans, FollowsAll, IsNextUpper, PutsLastBefore}
 use Rattle.net_orders.proofs.CalendarOrders.{calendar_said, greater_said, last_kept, last_said, said_more}
 use Rattle.net_orders.proofs.calendar.calendar_orders.Goals as goal
 use Rattle.net_orders.proofs.calendar.calendar_orders.Goals.{After-deref-upper-items, else-is_fixed, then-is_fixed}
@@ -15,7 +15,7 @@ up c = subst (AreDates (upper c.args.net.now) (points c.args.net.now)) (sym c.de
 
 pub push_orders-requires-clause-last : goal.push_orders-requires-clause-last
 push_orders-requires-clause-last c =
-    subst (λ (lowers : List Date). PutsLastBefore lowers c.loop-upper.orders.items c.loop-upper.last) (sym c.deref.ensures.value) c.loop-upper.invariant.last
+    subst (λ (lowers : List Date). PutsLastBefore c.args.net.now lowers c.loop-upper.orders.items c.loop-upper.last) (sym c.deref.ensures.value) c.loop-upper.invariant.last
 
 pub push_orders-requires-clause-next : goal.push_orders-requires-clause-next
 push_orders-requires-clause-next c =
@@ -46,16 +46,16 @@ loop-upper-preserved c =
     let said = c.loop-upper.invariant.said in
     let all_up = up (goal.at.loop-upper-preserved c).After-deref-upper-items in
     let lt : k < length uppers = omega (arith, c.loop-upper-test.true) in
-    let more = subst (λ (all : List Date). ExtendsOrders (points net) (FollowsAll all (get_or uppers k no_date)) orders next) c.deref.ensures.value c.in_ok-push_orders.ensures in
+    let more = subst (λ (all : List Date). ExtendsWithSpans net (FollowsAll all (get_or uppers k no_date)) orders next) c.deref.ensures.value c.in_ok-push_orders.ensures in
     record {
       in_range = more.in_range;
       said = said_more net uppers lowers all_up low orders k said next more;
       last = elim c.if-is_fixed.branch [
         | then-is_fixed w ↦
-            subst (PutsLastBefore lowers next) (sym w.last-is)
+            subst (PutsLastBefore net lowers next) (sym w.last-is)
             (last_said net uppers lowers all_up low orders k said next more lt (c.is_fixed.ensures.0 w.if-is_fixed.true))
         | else-is_fixed w ↦
-            subst (PutsLastBefore lowers next) (sym w.last-is)
+            subst (PutsLastBefore net lowers next) (sym w.last-is)
             (last_kept net uppers lowers all_up low orders k said next more c.loop-upper.last c.loop-upper.invariant.last)
       ];
     }

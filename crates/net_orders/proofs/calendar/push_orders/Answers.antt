@@ -14,5 +14,5 @@ returns-in-Some c =
     let fits_too : FitsSigned w64 c.in-Some.fixed.number = search rules in
     let same : c.in-Some.fixed.number ≡ c.args.upper.number = grind (arith, ints) in
     let within = (All-contains (IsDateOfPoint (lower c.args.net.now) (points c.args.net.now)) c.args.lowers.now c.in-Some.fixed c.requires.next.dates.right known.0).0 in
-    on_ok_weaker c.push_order.result (λ pushed. same_as_last (points c.args.net.now) c.args.upper c.in-Some.fixed c.args.lowers.now c.args.orders.now.items c.push_order.new.orders.items
+    on_ok_weaker c.push_order.result (λ pushed. same_as_last c.args.net.now c.args.upper c.in-Some.fixed c.args.lowers.now c.args.orders.now.items c.push_order.new.orders.items
     same known.0 known.1 (pushed (points c.args.net.now) c.requires.next.in_range c.requires.next.point within)) c.push_order.ensures

@@ -1,16 +1,15 @@
-use Rattle.std.proofs.Common.{◌≡◌, ◌+◌, ◌<◌, ℕ, ℤ, ◌<ℤ◌, FitsSigned, of_z, to_z, w64, List, length, get_or, subst, arith, rules}
-use Rattle.std.specs.List.{Contains}
+use Rattle.std.proofs.Common.{◌≡◌, ◌+◌, ◌<◌, ℕ, ℤ, ◌≤ℤ◌, FitsSigned, of_z, to_z, w64, List, length, get_or, Option, IfSome, sym, subst, arith, rules}
 use Rattle.std.proofs.lemmas.Int.{ints, to_z-of_z}
 use Rattle.net_core.specs.Nets.{points}
 use Rattle.net_core.specs.Relations.{Timeline}
 use Rattle.walks.specs.Dates.{AreDatesFrom}
 use Rattle.walks.specs.declared.dates.Date.{Date}
 use Rattle.walks.proofs.DateLaws.{no_date}
-use Rattle.net_orders.specs.Dates.{ExtendsOrders, FollowsDate, FollowsAll}
-use Rattle.net_orders.proofs.CalendarOrders.{all_later, extends_more, extends_same, later_within, up_to_fixed}
+use Rattle.net_orders.specs.Dates.{ExtendsOrders, FollowsDate, FollowsAll, end_after}
+use Rattle.net_orders.proofs.CalendarOrders.{PutsRest, all_later, earlier_holds, extends_more, extends_with_spans, from_number, later_within, puts_rest, rest_more, up_to_end}
 use Rattle.net_orders.proofs.Steps.{Below}
 use Rattle.net_orders.proofs.calendar.push_orders_from.Goals as goal
-use Rattle.net_orders.proofs.calendar.push_orders_from.Goals.{After-push_order, In_ok-push_order}
+use Rattle.net_orders.proofs.calendar.push_orders_from.Goals.{After-push_order}
 
 -- a date follows
 abbrev each : Date → List Date → ℕ → Timeline → Type 0
@@ -20,44 +19,57 @@ each upper later k t = FollowsDate upper (get_or later k no_date) t
 from_upper : (lowers later : List Date) (number : ℤ) → FitsSigned w64 number → AreDatesFrom (to_z w64 (of_z w64 number)) lowers later → AreDatesFrom number lowers later
 from_upper lowers later number fits are = subst (λ (x : ℤ). AreDatesFrom x lowers later) (to_z-of_z w64 number fits) are
 
--- the date of this turn is one of the list, and of a point of the net
-listed : (c : After-push_order) → let date = get_or c.dates_from-later.result.now c.loop-lower.lower-index no_date in Contains c.args.lowers.now date × (date.point < points c.args.net.now)
-listed c =
-    later_within c.args.net.now c.args.lowers.now c.dates_from-later.result.now c.args.upper.number c.loop-lower.lower-index c.requires.dates
-    (from_upper c.args.lowers.now c.dates_from-later.result.now c.args.upper.number (search rules) c.dates_from-later.ensures.dates) (omega (arith, c.loop-lower-test.true))
+-- the date of this turn is of a point of the net
+of_net : (c : After-push_order) → (get_or c.dates_from-later.result.now c.loop-lower.lower-index no_date).point < points c.args.net.now
+of_net c =
+    (later_within c.args.net.now c.args.lowers.now c.dates_from-later.result.now c.args.upper.number c.loop-lower.lower-index c.requires.dates
+    (from_upper c.args.lowers.now c.dates_from-later.result.now c.args.upper.number (search rules) c.dates_from-later.ensures.dates) (omega (arith, c.loop-lower-test.true))).1
 
--- the orders with that of this date
-so_far : (c : In_ok-push_order) → (get_or c.dates_from-later.result.now c.loop-lower.lower-index no_date).point < points c.args.net.now
-    → ExtendsOrders (points c.args.net.now) (Below (each c.args.upper c.dates_from-later.result.now) (c.loop-lower.lower-index + 1)) c.args.orders.now.items c.push_order.new.orders.items
-so_far c within =
-    extends_more (points c.args.net.now) (each c.args.upper c.dates_from-later.result.now) c.loop-lower.lower-index c.args.orders.now.items c.loop-lower.orders.items c.push_order.new.orders.items
-    c.loop-lower.invariant (c.in_ok-push_order.ensures (points c.args.net.now) c.loop-lower.invariant.in_range c.requires.point within)
-
-pub is_fixed-requires : goal.is_fixed-requires
-is_fixed-requires c = (listed (goal.at.is_fixed-requires c).After-push_order).1
-
-pub returns-then-is_fixed : goal.returns-then-is_fixed
-returns-then-is_fixed c =
-    let later = c.dates_from-later.result.now in
-    let k = c.loop-lower.lower-index in
-    let date = get_or later k no_date in
-    let stands = listed (goal.at.returns-then-is_fixed c).After-push_order in
-    let fits : FitsSigned w64 c.args.upper.number = search rules in
-    let fits_too : FitsSigned w64 date.number = search rules in
-    let less : c.args.upper.number <ℤ date.number = grind (arith, ints) in
-    extends_same (points c.args.net.now) (Below (each c.args.upper later) (k + 1)) (FollowsAll c.args.lowers.now c.args.upper) c.args.orders.now.items c.push_order.new.orders.items
-    (λ t all.
-    up_to_fixed c.args.upper c.args.lowers.now later k t (from_upper c.args.lowers.now later c.args.upper.number fits c.dates_from-later.ensures.dates) c.dates_from-later.ensures.sorted
-    (omega (arith, c.loop-lower-test.true)) less (c.requires.above date stands.0 (c.is_fixed.ensures.0 c.if-is_fixed.true) less t all))
-    (so_far (goal.at.returns-then-is_fixed c).In_ok-push_order stands.1)
+pub end_after-requires : goal.end_after-requires
+end_after-requires c = of_net (goal.at.end_after-requires c).After-push_order
 
 pub loop-lower-preserved : goal.loop-lower-preserved
-loop-lower-preserved c = so_far (goal.at.loop-lower-preserved c).In_ok-push_order (listed (goal.at.loop-lower-preserved c).After-push_order).1
+loop-lower-preserved c =
+    let net = c.args.net.now in
+    let upper = c.args.upper in
+    let lowers = c.args.lowers.now in
+    let later = c.dates_from-later.result.now in
+    let old = c.args.orders.now.items in
+    let k = c.loop-lower.lower-index in
+    let lt : k < length later = omega (arith, c.loop-lower-test.true) in
+    let fits : FitsSigned w64 upper.number = search rules in
+    let Rest = PutsRest net lowers old upper later (k + 1) in
+    record {
+      pushed = extends_more (points net) (each upper later) k old c.loop-lower.orders.items c.push_order.new.orders.items c.loop-lower.invariant.pushed
+          (c.in_ok-push_order.ensures (points net) c.loop-lower.invariant.pushed.in_range c.requires.point (of_net (goal.at.loop-lower-preserved c).After-push_order));
+      rest = subst (λ (end : Option ℤ). IfSome end Rest) (sym c.earlier-first_end.ensures)
+          (earlier_holds Rest c.loop-lower.first_end c.end_after.result (rest_more net lowers old upper later k c.loop-lower.first_end c.loop-lower.invariant.rest)
+          (subst (λ (end : Option ℤ). IfSome end Rest) (sym c.end_after.ensures)
+          (subst (λ (x : ℤ). IfSome (end_after net (get_or later k no_date).point x) Rest) (sym (to_z-of_z w64 upper.number fits))
+          (puts_rest net upper lowers later old c.requires.dates c.requires.above (from_upper lowers later upper.number fits c.dates_from-later.ensures.dates) k lt))));
+    }
+
+pub returns-then-has_ended : goal.returns-then-has_ended
+returns-then-has_ended c =
+    let net = c.args.net.now in
+    let upper = c.args.upper in
+    let lowers = c.args.lowers.now in
+    let later = c.dates_from-later.result.now in
+    let old = c.args.orders.now.items in
+    let k = c.loop-lower.lower-index in
+    let lt : k < length later = omega (arith, c.loop-lower-test.true) in
+    let fits : FitsSigned w64 upper.number = search rules in
+    let fits_too : FitsSigned w64 (get_or later k no_date).number = search rules in
+    from_number _ (PutsRest net lowers old upper later k) c.loop-lower.first_end (c.has_ended.ensures.0 c.if-has_ended.true) c.loop-lower.invariant.rest (λ end reached rest.
+    let le : end ≤ℤ (get_or later k no_date).number = omega (arith, ints) in
+    extends_with_spans net (Below (each upper later) k) (FollowsAll lowers upper) old c.loop-lower.orders.items
+    (λ t spans all. up_to_end net upper lowers later old k end t (from_upper lowers later upper.number fits c.dates_from-later.ensures.dates) c.dates_from-later.ensures.sorted lt le rest spans all)
+    c.loop-lower.invariant.pushed)
 
 pub returns : goal.returns
 returns c =
-    let later = c.dates_from-later.result.now in
-    let end : c.loop-lower.lower-index ≡ length later = omega arith in
-    extends_same (points c.args.net.now) (Below (each c.args.upper later) (length later)) (FollowsAll c.args.lowers.now c.args.upper) c.args.orders.now.items c.loop-lower.orders.items
-    (λ t all. all_later c.args.upper c.args.lowers.now later t (from_upper c.args.lowers.now later c.args.upper.number (search rules) c.dates_from-later.ensures.dates))
-    (subst (λ (n : ℕ). ExtendsOrders (points c.args.net.now) (Below (each c.args.upper later) n) c.args.orders.now.items c.loop-lower.orders.items) end c.loop-lower.invariant)
+    let dates = c.dates_from-later.result.now in
+    let end : c.loop-lower.lower-index ≡ length dates = omega arith in
+    extends_with_spans c.args.net.now (Below (each c.args.upper dates) (length dates)) (FollowsAll c.args.lowers.now c.args.upper) c.args.orders.now.items c.loop-lower.orders.items
+    (λ t spans all. all_later c.args.upper c.args.lowers.now dates t (from_upper c.args.lowers.now dates c.args.upper.number (search rules) c.dates_from-later.ensures.dates))
+    (subst (λ (n : ℕ). ExtendsOrders (points c.args.net.now) (Below (each c.args.upper dates) n) c.args.orders.now.items c.loop-lower.orders.items) end c.loop-lower.invariant.pushed)
