@@ -9,9 +9,9 @@ use Rattle.net_core.specs.Least.{AreLeast, AreSpares}
 use Rattle.net_core.specs.Nets.{PlainNet, points}
 use Rattle.net_core.specs.Walks.{GoesOver, IsClosedWalk, Kept}
 use Rattle.clash.specs.declared.minimal.Clash.{Clash}
+use Rattle.net_core.specs.declared.step.Step.{Step}
 use Rattle.net_orders.specs.Orders.{AreStepOrders}
 use Rattle.clash.specs.declared.closed_walk.ClosedWalk.{ClosedWalk}
-use Rattle.clash.specs.declared.short_walk.Through.{Through}
 
 -- the links before link k, and those up to it
 abbrev pub Before : ℕ → ℕ → Type 0
@@ -34,11 +34,10 @@ pub record IsMarkedWalk (net : PlainNet) (closed : ClosedWalk) : Type 0 where
   pub short : length closed.walk ≤ 2 * points net
   pub orders : AreStepOrders net closed.walk closed.orders
 
--- A closed walk in at most twice as many steps as there are points, and a link of the net.
-pub record IsThrough (net : PlainNet) (through : Through) : Type 0 where
-  pub link : through.link < length net.links
-  pub goes : IsClosedWalk net EveryLink through.walk
-  pub short : length through.walk ≤ 2 * points net
+-- A closed walk in at most twice as many steps as there are points.
+pub record IsShortClosed (net : PlainNet) (walk : List Step) : Type 0 where
+  pub goes : IsClosedWalk net EveryLink walk
+  pub short : length walk ≤ 2 * points net
 
 -- a timeline fits with the links of a set but one
 abbrev pub IsSpared : PlainNet → (ℕ → Type 0) → ℕ → Type 0

@@ -1,5 +1,5 @@
 //! Minimal clashes.
-ghost use Rattle.clash.specs.Minimal.{IsFirstClash, IsProvedClash, IsMarkedWalk, IsSpared, UpTo};
+ghost use Rattle.clash.specs.Minimal.{IsFirstClash, IsProvedClash, IsMarkedWalk, IsShortClosed, IsSpared, UpTo};
 ghost use Rattle.net_orders.specs.Milestones.{AreWithMilestones};
 ghost use Rattle.net_core.specs.Fits.{EveryLink};
 ghost use Rattle.net_core.specs.Walks.{IsClosedWalk, Kept};
@@ -10,7 +10,7 @@ ghost use Rattle.order_closure.specs.Tables.{AreInRange};
 ghost use Rattle.std.specs.Prelude.{IfOk, IfSome, length, ℕ, ◌*◌, ◌<◌, ◌≡◌, ◌≤◌, ◌↔◌};
 
 use crate::closed_walk::{ClosedWalk, TURNS, closed_walk_over, thin};
-use crate::short_walk::{Through, short_walk};
+use crate::short_walk::{first_link, short_walk};
 use crate::spares::{spares_of, spares_soon};
 use net_core::{Atom, List, Memory, Net, Ranks, Walk};
 use net_orders::{first_unsettled, orders_with_milestones};
@@ -29,8 +29,9 @@ pub struct Clash {
     pub spares: List<Ranks>,
 }
 
-/// A clash of some links up to the one with which ranks no longer settle soon, where the orders of links follow `fixed` others.
-/// None comes seldom where links clash.
+/// A clash with a closed walk that is looked for from the link with which ranks no longer settle soon: over all links, and if
+/// that fails over the links up to this one. `orders` are `fixed` orders and then those of the links. None comes seldom if links
+/// clash.
 ///
 /// # Errors
 ///
@@ -49,8 +50,8 @@ pub fn clash_soon(
         return Ok(None);
     };
     let few = orders_with_milestones(alloc, net)?;
-    if let Some(Through { link, walk }) = short_walk(alloc, net, link)? {
-        if let Some(clash) = clash_on(alloc, net, &few, walk, link)? {
+    if let Some(walk) = short_walk(alloc, net, link)? {
+        if let Some(clash) = clash_on_first(alloc, net, &few, walk)? {
             return Ok(Some(clash));
         }
     }
@@ -59,6 +60,23 @@ pub fn clash_soon(
         return Ok(None);
     };
     clash_on(alloc, net, &few, walk, link)
+}
+
+/// The clash of some links that a closed walk goes over, if the first link is needed in it.
+fn clash_on_first(
+    alloc: Global,
+    net: &Net,
+    fixed: &[Atom],
+    walk: Walk,
+) -> Result<Option<Clash>, Memory>
+    requires fixed { AreWithMilestones net.now fixed.now }
+    requires walk { IsShortClosed net.now walk }
+    ensures { IfOk result (λ found. IfSome found (IsProvedClash net.now)) }
+{
+    match first_link(walk.as_slice()) {
+        Some(link) if link < net.links() => clash_on(alloc, net, fixed, walk, link),
+        _ => Ok(None),
+    }
 }
 
 /// The clash of some links that a closed walk goes over, if a link is needed in it.

@@ -11,5 +11,5 @@ pub loop-other-init : goal.loop-other-init
 loop-other-init c =
     let net = c.args.net.now in
     let keep = c.deref.result.now in
-    let goes = subst (λ (o : Option Walk). IfSome o (λ steps. IsClosedWalk net (Kept keep) steps × (length steps ≤ 2 * points net))) c.in-Some.is c.in_ok-walk.ensures.some in
-    record { link = c.requires; goes = closed_walk_more net (Kept keep) EveryLink c.in-Some.walk (λ k kept. tt) goes.0; short = goes.1 }
+    let goes = subst (λ (o : Option Walk). IfSome o (λ steps. IsClosedWalk net (Kept keep) steps × (length steps ≤ 2 * points net))) c.in-Some.is c.in_ok-first.ensures.some in
+    record { goes = closed_walk_more net (Kept keep) EveryLink c.in-Some.first (λ k kept. tt) goes.0; short = goes.1 }

@@ -1,4 +1,4 @@
-use Rattle.std.proofs.Common.{◌*◌, ◌≤◌, Option, length, subst, arith}
+use Rattle.std.proofs.Common.{◌*◌, ◌≤◌, Option, length, subst}
 use Rattle.std.specs.Option.{IfSome}
 use Rattle.net_core.specs.Fits.{EveryLink}
 use Rattle.net_core.specs.Nets.{points}
@@ -12,4 +12,4 @@ returns-then-as_slice c =
     let net = c.args.net.now in
     let keep = c.args.keep.now in
     let goes = subst (λ (o : Option Walk). IfSome o (λ steps. IsClosedWalk net (Kept keep) steps × (length steps ≤ 2 * points net))) c.in-Some.is c.in_ok-walk.ensures.some in
-    record { link = omega (arith, c.if-link-links.false, c.links.ensures.count); goes = closed_walk_more net (Kept keep) EveryLink c.in-Some.walk (λ k kept. tt) goes.0; short = goes.1 }
+    record { goes = closed_walk_more net (Kept keep) EveryLink c.in-Some.walk (λ k kept. tt) goes.0; short = goes.1 }
