@@ -22,5 +22,5 @@ pub use links::{FirstClash, add_links, atoms_of_link, nth_order};
 pub use milestones::orders_with_milestones;
 pub use orders::{Order, all_orders, fixed_orders, orders_of};
 pub use sequence::sequence_of;
-pub use settling::{settle, settle_without};
+pub use settling::settle_without;
 pub use unsettled::first_unsettled;
