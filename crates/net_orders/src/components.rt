@@ -24,7 +24,7 @@ pub fn has_strict_cycle(
     requires in_range { AreInRange points orders.now }
     requires sequence { All (λ k. k < length orders.now) sequence.now }
 {
-    let components = components_of(alloc, points as usize, orders, sequence)?;
+    let components = components_of(alloc, points as usize, orders, sequence)?.of;
     for order in orders {
         let (from, to) = (order.from as usize, order.to as usize);
         if order.strict && components[from].is_some() && components[from] == components[to] {
@@ -34,40 +34,47 @@ pub fn has_strict_cycle(
     Ok(false)
 }
 
-/// For each point that an order leaves the strong component that it is in, by the first of its points that was met. In the
-/// sequence the orders of one point of a component, the one that is left last, come after those of all that it leads to.
-fn components_of(
+/// The strong components of orders, and how they were found.
+#[derive(Drop)]
+pub struct Components {
+    /// For each point that an order leaves the component that it is in, by the first of its points that was met.
+    pub of: Vec<Option<usize>>,
+    /// The numbers of the orders that leave a point, and of those by which one was met, in the sequence that `schedule_of` says.
+    pub schedule: Vec<usize>,
+}
+
+/// The strong components of orders, from a sequence in which the orders of one point of a component, the one that is left last,
+/// come after those of all that it leads to.
+pub fn components_of(
     alloc: Global,
     points: usize,
     orders: &[Atom],
     sequence: &[usize],
-) -> Result<Vec<Option<usize>>, Memory>
+) -> Result<Components, Memory>
     requires in_range { AreInRange points orders.now }
     requires sequence { All (λ k. k < length orders.now) sequence.now }
-    ensures { IfOk result (λ components. length components.items ≡ points) }
+    ensures { IfOk result (λ components. length components.of.items ≡ points) }
 {
     let turned = turned(alloc, points, orders)?;
     let entering = Leaving::new(alloc, points, &turned)?;
-    let mut components = vec![in alloc; None; points]?;
+    let mut of = vec![in alloc; None; points]?;
     let mut met = Vec::new(alloc);
     let mut inward = Vec::new(alloc);
+    let mut schedule = Vec::new(alloc);
     for number in sequence.iter().rev() {
         let point = orders[*number].from as usize;
-        meet(&mut components, point, point, &mut met)?;
-        flood(
-            &entering,
-            &turned,
-            point,
-            &mut components,
-            &mut met,
-            &mut inward,
-        )?;
+        meet(&mut of, point, point, &mut met)?;
+        flood(&entering, &turned, point, &mut of, &mut met, &mut inward)?;
+        inward.reverse();
+        schedule.append(&mut inward)?;
+        schedule.push(*number)?;
     }
-    Ok(components)
+    schedule.reverse();
+    Ok(Components { of, schedule })
 }
 
 /// The orders the other way round.
-pub fn turned(alloc: Global, points: usize, orders: &[Atom]) -> Result<Vec<Atom>, Memory>
+fn turned(alloc: Global, points: usize, orders: &[Atom]) -> Result<Vec<Atom>, Memory>
     requires { AreInRange points orders.now }
     ensures in_range { IfOk result (λ turned. AreInRange points turned.items) }
     ensures size { IfOk result (λ turned. length turned.items ≡ length orders.now) }
@@ -86,7 +93,7 @@ pub fn turned(alloc: Global, points: usize, orders: &[Atom]) -> Result<Vec<Atom>
 }
 
 /// Adds a point to a component, unless it is in one, and notes that it was met. Whether it was.
-pub fn meet(
+fn meet(
     components: &mut [Option<usize>],
     point: usize,
     component: usize,
@@ -106,7 +113,7 @@ pub fn meet(
 
 /// Adds all points that lead to those that were met to a component, unless they are in one. Each is met once, and the number
 /// of the order by which it was met is appended to `inward`: from the last back these lead to the points that were met first.
-pub fn flood(
+fn flood(
     entering: &Leaving,
     turned: &[Atom],
     component: usize,

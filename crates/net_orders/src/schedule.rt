@@ -1,8 +1,8 @@
 //! A sequence of orders by which ranks are as high as they must be in one pass.
 ghost use Rattle.order_closure.specs.Tables.{AreInRange};
 
-use crate::components::{flood, meet, turned};
-use crate::sequence::{Leaving, sequence_of};
+use crate::components::components_of;
+use crate::sequence::sequence_of;
 use net_core::{Atom, Memory};
 use std::alloc::Global;
 
@@ -19,27 +19,5 @@ pub fn schedule_of(alloc: Global, points: u32, orders: &[Atom]) -> Result<Vec<us
     requires { AreInRange points orders.now }
 {
     let sequence = sequence_of(alloc, points, orders)?;
-    let turned = turned(alloc, points as usize, orders)?;
-    let entering = Leaving::new(alloc, points as usize, &turned)?;
-    let mut components = vec![in alloc; None; points as usize]?;
-    let mut met = Vec::new(alloc);
-    let mut inward = Vec::new(alloc);
-    let mut schedule = Vec::new(alloc);
-    for number in sequence.iter().rev() {
-        let point = orders[*number].from as usize;
-        meet(&mut components, point, point, &mut met)?;
-        flood(
-            &entering,
-            &turned,
-            point,
-            &mut components,
-            &mut met,
-            &mut inward,
-        )?;
-        inward.reverse();
-        schedule.append(&mut inward)?;
-        schedule.push(*number)?;
-    }
-    schedule.reverse();
-    Ok(schedule)
+    Ok(components_of(alloc, points as usize, orders, &sequence)?.schedule)
 }
