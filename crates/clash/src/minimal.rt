@@ -29,8 +29,9 @@ pub struct Clash {
     pub spares: List<Ranks>,
 }
 
-/// A clash of some links up to the one with which ranks no longer settle soon, where the orders of links follow `fixed` others.
-/// None comes seldom where links clash.
+/// A clash with a closed walk that is looked for from the link with which ranks no longer settle soon: over all links, and if
+/// that fails over the links up to this one. `orders` are `fixed` orders and then those of the links. None comes seldom if links
+/// clash.
 ///
 /// # Errors
 ///

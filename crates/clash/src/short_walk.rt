@@ -10,7 +10,7 @@ use std::alloc::Global;
 const TRIES: usize = 6;
 
 /// A closed walk of few steps: the shortest of one that is looked for from this link, and of those from some links that the
-/// first one goes over. None comes only where no closed walk goes over the link.
+/// first one goes over. None comes only if no closed walk goes over the link.
 ///
 /// # Errors
 ///
@@ -31,7 +31,7 @@ pub fn short_walk(alloc: Global, net: &Net, link: u32) -> Result<Option<Walk>, M
     Ok(Some(best))
 }
 
-/// Takes a closed walk that is looked for from a link, where it has fewer steps.
+/// Takes a closed walk that is looked for from a link, if it has fewer steps.
 fn shorten(
     alloc: Global,
     net: &Net,

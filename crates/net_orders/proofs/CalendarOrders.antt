@@ -35,11 +35,11 @@ by_number x y = by_test x y (int_le x y) refl
 not_after : (x y : ℤ) (m n : ℕ) → y <ℤ x → FollowsNumbers (Some x) (Some y) m n
 not_after x y m n less = (λ lt. absurd (omega (arith, ints)), λ e. absurd (omega (arith, ints)))
 
--- a point follows another where it follows one whose number is between theirs, and that one follows the other
+-- a point follows another if it follows one whose number is between theirs, and that one follows the other
 through : (x y z : ℤ) (l m n : ℕ) → x ≤ℤ y → y ≤ℤ z → FollowsNumbers (Some x) (Some y) l m → FollowsNumbers (Some y) (Some z) m n → FollowsNumbers (Some x) (Some z) l n
 through x y z l m n le lt first second = (λ less. grind (arith, ints), λ e. grind (arith, ints))
 
--- where a point has the number of another and is not after it, all points with lower numbers that follow the other follow it too
+-- if a point has the number of another and is not after it, all points with lower numbers that follow the other follow it too
 all_through : (first mid : Date) (lowers : List Date) (t : Timeline) → first.number ≡ mid.number → FollowsDate first mid t → FollowsAll lowers mid t → FollowsAll lowers first t
 all_through first mid lowers t same one all =
     All-weaker (λ (l : Date). FollowsDate mid l t) (λ (l : Date). FollowsDate first l t) (λ l h. elim (by_number mid.number l.number) [
@@ -47,7 +47,7 @@ all_through first mid lowers t same one all =
       | inr lt ↦ not_after first.number l.number (t first.point) (t l.point) (subst (λ (x : ℤ). l.number <ℤ x) (sym same) lt)
     ]) lowers all
 
--- All points with lower numbers follow a point, where those before place k of the dates from its number on do, and so the rest.
+-- All points with lower numbers follow a point, if those before place k of the dates from its number on do, and so the rest.
 all_from : (upper : Date) (lowers later : List Date) (k : ℕ) (t : Timeline) → AreDatesFrom upper.number lowers later → k ≤ length later
     → (Below (λ i. FollowsDate upper (get_or later i no_date)) k t → (i : ℕ) → k ≤ i → i < length later → FollowsDate upper (get_or later i no_date) t)
     → Below (λ i. FollowsDate upper (get_or later i no_date)) k t ↔ FollowsAll lowers upper t

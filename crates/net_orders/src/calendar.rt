@@ -13,8 +13,8 @@ use std::alloc::Global;
 use walks::{Date, dates_from, lowers_of, uppers_of};
 
 /// Orders of the calendar from which all of them follow in timelines in which each interval starts before it ends. Those of a
-/// point go to the dates that begin from it on, before the first of these has ended: one each for dates that follow each other,
-/// and for dates that overlap at most the pairs that meet this way.
+/// point go to the dates that begin from it on, before the first of these has ended: one for each point of dates that follow
+/// each other, and at most the pairs that meet this way if dates overlap.
 ///
 /// # Errors
 ///

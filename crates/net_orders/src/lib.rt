@@ -23,5 +23,5 @@ pub use milestones::orders_with_milestones;
 pub use orders::{Order, all_orders, fixed_orders, orders_of};
 pub use schedule::{Schedule, schedule_of};
 pub use sequence::{Sequence, sequence_of};
-pub use settling::{settle, settle_without};
+pub use settling::settle_without;
 pub use unsettled::first_unsettled;

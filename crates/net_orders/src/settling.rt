@@ -22,19 +22,6 @@ const FEW_TURNS: u32 = 3;
 
 /// Raises ranks until all orders hold but those of one link, in at most this number of turns. Whether they do: else some rank
 /// reached the highest, or the ranks still rose in each turn.
-pub fn settle(orders: &[Order], fixed: &[Atom], omitted: u32, ranks: &mut [u32], turns: u32) -> bool
-    requires orders { spec.AreOrdersBelow (length ranks.old) orders.now }
-    requires fixed { AreInRange (length ranks.old) fixed.now }
-    requires few { length ranks.old ≤ max_points }
-    requires within { AreRanksWithin ranks.old }
-    ensures rises { RanksRise (FitsBut orders.now fixed.now omitted) ranks.old ranks.new }
-    ensures fits { IsTrue result → FitsBut orders.now fixed.now omitted (timeline_of ranks.new) }
-    ensures stuck { ¬ IsTrue result → AreLow ranks.new → turns ≤ sum_by (λ rank. rank) ranks.new }
-{
-    settle_in_turns(orders, fixed, omitted, ranks, turns)
-}
-
-/// The same of points that may have milestones.
 fn settle_in_turns(
     orders: &[Order],
     fixed: &[Atom],
@@ -144,7 +131,7 @@ fn raise_turn(
     raise_all(ranks, fixed);
 }
 
-/// The place of the first order of a link, or 0 where there is none.
+/// The place of the first order of a link, or 0 if there is none.
 fn place_of(orders: &[Order], link: u32) -> usize
     ensures place { result ≡ unwrap_or (position (is_of link) orders.now) 0 }
     ensures within { result ≤ length orders.now }
