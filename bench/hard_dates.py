@@ -205,6 +205,14 @@ def capped(name: str, order: Callable[[int], Sequence[int]]) -> Callable[[int], 
     return make
 
 
+def overlapping(size: int) -> Case:
+    """A long duration, and a chain of longer and longer ones that overlap, by turns, of which the last one ends it."""
+    order = by_turns(size - 1)
+    some = [f'type="DURATION" value="PT{10 + one}S"' for one in range(size - 1)]
+    links = [*chain("OVERLAPPED_BY", order), (size - 1, "ENDED_BY", order[0])]
+    return net(links, 0, [*some, 'type="DURATION" value="P100000D"'])
+
+
 def with_selves(case: Callable[[int], Case]) -> Callable[[int], Case]:
     """The same with as many more links as there may be, each of an interval with itself."""
 
@@ -268,6 +276,8 @@ PLACED: dict[str, Callable[[int], Case]] = {
     "a long duration and short ones, by IAFTER": capped("IAFTER", onward),
     "a long duration and short ones, by IAFTER, backward": capped("IAFTER", back),
     "a long duration and short ones, links with themselves": with_selves(capped("IBEFORE", onward)),
+    "a long duration and others that overlap, by turns": overlapping,
+    "a long duration and others that overlap, links with themselves": with_selves(overlapping),
     "two chains of durations, a second apart": slow_cycle,
     "durations that include each other": at_most,
 }

@@ -1,10 +1,8 @@
 -- The edges of a net are all its constraints.
 use Rattle.std.proofs.Common.{◌≡◌, ℕ, zero, suc, neg_ℤ, option_map, [], ◌+◌, ◌*◌, ◌<◌, ◌≤◌, List, length, Option, Some, None, inl, inr, refl, sym, ap, subst, ◌∙◌, arith}
-use Rattle.std.specs.List.{All, Contains, slice_get}
+use Rattle.std.specs.List.{All, slice_get}
 use Rattle.std.proofs.lemmas.Bool.{cases_lt, le-ltb}
-use Rattle.std.proofs.lemmas.List.Elements.{All-contains, All-contains_itself, All-nil, All-weaker}
-use Rattle.std.specs.List.Sorted.{IsPermutation}
-use Rattle.std.proofs.lemmas.List.Sorted.{Contains-permutation, IsPermutation-sym}
+use Rattle.std.proofs.lemmas.List.Elements.{All-nil, All-weaker}
 use Rattle.std.proofs.lemmas.Option.{option_and_then_some, slice_get_within}
 use Rattle.net_core.specs.Atoms.{atoms_of, points_of}
 use Rattle.net_core.specs.Nets.{intervals, points}
@@ -117,13 +115,6 @@ edges_are timed a b c d m n o is none g h i by_interval by_point by_link = recor
       (λ p lt. covers_all_yet timed c d o (IsOfPoint p) i (by_point p lt)) by_link;
 }
 
--- the same edges in another order are all constraints too
-pub edges_sorted : (timed : PlainTimed) (edges sorted : List Edge) → AreConstraintEdges timed edges → IsPermutation edges sorted → AreConstraintEdges timed sorted
-edges_sorted timed edges sorted are same = record {
-  named = All-weaker (Contains sorted) (IsEdge timed) (λ edge in_sorted. All-contains (IsEdge timed) edges edge are.named (Contains-permutation sorted edges edge (IsPermutation-sym edges sorted same) in_sorted)) sorted (All-contains_itself sorted);
-  whole = λ line con named. Contains-permutation edges sorted (record { line = line; constraint = con }) same (are.whole line con named);
-}
-
--- so they are between points
+-- the edges of a net are between points
 pub edges_inside : (timed : PlainTimed) (edges : List Edge) → AreConstraintEdges timed edges → AreInside (origin timed + 1) edges
 edges_inside timed edges are = All-weaker (IsEdge timed) (IsEdgeInside (origin timed + 1)) (λ edge is. record { from = omega (arith, is.1.from); to = omega (arith, is.1.to); low = is.1.low; high = is.1.high }) edges are.named

@@ -1,4 +1,5 @@
 pub mod Edges
-pub mod Ranking
+pub mod Leaving
 pub mod Relaxation
+pub mod Rounds
 pub mod Decided

@@ -80,7 +80,7 @@ AreMet edges seconds = (e : ℕ) → e < length edges → IsMet seconds (constra
 abbrev pub Relaxes : List Edge → ℕ → PlainDistances → PlainDistances → Relaxed → Type 0
 Relaxes edges e old new Met = (new ≡ old) × IsMet new.seconds (constraint_at edges e)
 Relaxes edges e old new Lowered = total new.seconds < total old.seconds
-Relaxes edges e old new TooLow = IsTooLow new.seconds (constraint_at edges e).from
+Relaxes edges e old new TooLow = (new ≡ old) × IsTooLow new.seconds (constraint_at edges e).from
 
 -- All edges are met, or a point is known that was lowered, or that is too low.
 abbrev pub RelaxesAll : List Edge → PlainDistances → PlainDistances → Option ℕ → Type 0

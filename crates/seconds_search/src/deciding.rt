@@ -7,6 +7,7 @@ use crate::cycle::negative_cycle;
 use crate::edges::edges_of;
 use crate::placing::from_origin;
 use crate::relaxation::Distances;
+use crate::rounds::Rounds;
 use net_core::Memory;
 use seconds_core::{Cycle, Placing, Timed};
 use std::alloc::Global;
@@ -57,9 +58,11 @@ impl From<Memory> for PlaceFault {
 pub fn place(alloc: Global, timed: &Timed) -> Result<Placing, PlaceFault>
     ensures { IsDecided timed.now result }
 {
+    let points = timed.origin() + 1;
     let edges = edges_of(alloc, timed)?;
-    let mut distances = Distances::new(alloc, timed.origin() + 1)?;
-    while let Some(point) = distances.relax_all(&edges) {
+    let mut rounds = Rounds::new(alloc, &edges, points)?;
+    let mut distances = Distances::new(alloc, points)?;
+    while let Some(point) = rounds.next(&edges, &mut distances)? {
         if let Some(cycle) = negative_cycle(alloc, &edges, &distances, point)? {
             return Err(PlaceFault::Negative(cycle));
         }

@@ -1,11 +1,10 @@
 //! All constraints between the points of a net, each with the line that names it.
 ghost use Rattle.net_core.specs.Nets.{intervals, points};
 ghost use Rattle.seconds_core.specs.Timed.{IsTimed};
-ghost use Rattle.std.specs.Prelude.{IfOk, OnOk, length, slice_index, ℕ, ◌+◌, ◌*◌, ◌<◌, ◌≡◌, ◌≤◌};
+ghost use Rattle.std.specs.Prelude.{IfOk, OnOk, length, ℕ, ◌+◌, ◌*◌, ◌<◌, ◌≡◌, ◌≤◌};
 ghost use Rattle.seconds_search.specs.Edges as spec;
 ghost use Rattle.seconds_search.specs.Edges.{AreConstraintEdges, CoversAll, EdgesGrow, IsOfInterval, IsLineOfLink, IsOfPoint};
 
-use crate::ranking::ranks_of;
 use net_core::Memory;
 use seconds_core::{Constraint, Line, Timed, constraint_of};
 use std::alloc::Global;
@@ -17,23 +16,12 @@ pub struct Edge {
     pub constraint: Constraint,
 }
 
-/// The edges of a net, in an order in which few rounds of relaxation are needed.
+/// The edges of a net: those of intervals, of points and of links.
 ///
 /// # Errors
 ///
 /// Out of memory.
 pub fn edges_of(alloc: Global, timed: &Timed) -> Result<Vec<Edge>, Memory>
-    ensures { IfOk result (λ edges. AreConstraintEdges timed.now edges.items) }
-{
-    let points = timed.origin() + 1;
-    let mut edges = all_edges(alloc, timed)?;
-    let ranks = ranks_of(alloc, &edges, points)?;
-    edges.sort_unstable_by_key(|edge| rank_of(&ranks, edge));
-    Ok(edges)
-}
-
-/// The edges of intervals, of points and of links.
-fn all_edges(alloc: Global, timed: &Timed) -> Result<Vec<Edge>, Memory>
     requires { IsTimed timed.now }
     ensures edges { IfOk result (λ edges. AreConstraintEdges timed.now edges.items) }
     ensures few { IfOk result (λ edges. length edges.items < 65536) }
@@ -43,16 +31,6 @@ fn all_edges(alloc: Global, timed: &Timed) -> Result<Vec<Edge>, Memory>
     push_points(&mut edges, timed)?;
     push_links(&mut edges, timed)?;
     Ok(edges)
-}
-
-/// The rank of the point that an edge leads from.
-fn rank_of(ranks: &[usize], edge: &Edge) -> usize
-    ensures { result ≡ slice_index ranks.now edge.now.constraint.from }
-{
-    match ranks.get(edge.constraint.from as usize) {
-        Some(rank) => *rank,
-        None => 0,
-    }
 }
 
 fn push_intervals(edges: &mut Vec<Edge>, timed: &Timed) -> Result<(), Memory>

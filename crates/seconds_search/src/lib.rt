@@ -5,9 +5,11 @@ mod cycle;
 mod deciding;
 mod edges;
 mod laws;
+mod leaving;
+mod ordering;
 mod placing;
-mod ranking;
 mod relaxation;
+mod rounds;
 
 pub use deciding::{PlaceFault, place};
 pub use laws::every_net_is_decided;

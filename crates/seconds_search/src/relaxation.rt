@@ -100,7 +100,7 @@ impl Distances {
     }
 
     /// Relaxes an edge: where the point that it leads to is further than the edge allows, its distance is lowered.
-    fn relax(&mut self, edges: &[Edge], number: usize) -> Relaxed
+    pub fn relax(&mut self, edges: &[Edge], number: usize) -> Relaxed
         requires number { number < length edges.now }
         requires relaxed { IsRelaxed edges.now self.old }
         ensures relaxed { IsRelaxed edges.now self.new }

@@ -1,14 +1,16 @@
-use Rattle.std.proofs.Common.{ℕ, ◌+◌, sym, subst}
-use Rattle.seconds_core.specs.Timed.{origin}
-use Rattle.seconds_search.specs.Edges.{AreInside}
-use Rattle.seconds_search.proofs.EdgeLaws.{edges_inside, edges_sorted}
+use Rattle.std.proofs.Common.{◌*◌, length, arith}
+use Rattle.net_core.specs.Nets.{intervals, points}
+use Rattle.seconds_search.proofs.EdgeLaws.{edges_are}
 use Rattle.seconds_search.proofs.edges.edges_of.Goals as goal
 
-pub ranks_of-requires-clause-inside : goal.ranks_of-requires-clause-inside
-ranks_of-requires-clause-inside c =
-    let timed = c.args.timed.now in
-    subst (λ (n : ℕ). AreInside (n + 1) c.deref.result.now) (sym c.origin-points.ensures.origin)
-    (subst (AreInside (origin timed + 1)) (sym c.deref.ensures.value) (edges_inside timed c.in_ok-edges.edges.items c.in_ok-edges.ensures.edges))
+pub returns-clause-edges : goal.returns-clause-edges
+returns-clause-edges c =
+    let net = c.args.timed.now.net in
+    edges_are _ _ _ _ _ (3 * intervals net) (2 * points net) (4 * length net.links) c.requires c.new-edges.ensures.items
+    c.in_ok-push_intervals.ensures.grows c.in_ok-push_points.ensures.grows c.in_ok-push_links.ensures.grows
+    c.in_ok-push_intervals.ensures.covers c.in_ok-push_points.ensures.covers c.in_ok-push_links.ensures.covers
 
-pub returns : goal.returns
-returns c = edges_sorted _ _ _ c.in_ok-edges.ensures.edges c.sort_unstable_by_key.ensures.permutation
+pub returns-clause-few : goal.returns-clause-few
+returns-clause-few c =
+    let is = c.requires.net in
+    omega (arith, c.new-edges.ensures.len, is.few_intervals, is.few_links, c.in_ok-push_intervals.ensures.grows.few, c.in_ok-push_points.ensures.grows.few, c.in_ok-push_links.ensures.grows.few)
