@@ -13,8 +13,8 @@ ghost use Rattle.std.specs.Prelude.{IfErr, IfOk, IfSome, length, ◌<◌, ◌≤
 use crate::minimal::{Clash, clash_soon, clash_up_to};
 use net_core::{Atom, Memory, Net};
 use net_orders::{
-    add_in_sequence, add_links, add_orders, all_orders, fixed_orders, has_strict_cycle, schedule_of,
-    sequence_of,
+    add_in_sequence, add_links, add_orders, all_orders, fixed_orders, has_strict_cycle,
+    schedule_of, sequence_of,
 };
 use order_closure::Closed;
 use std::alloc::Global;
