@@ -10,12 +10,14 @@ from __future__ import annotations
 import os
 import re
 import sys
+import unittest
 from collections import Counter
 from collections.abc import Callable
 from enum import Enum
 from functools import lru_cache
 from itertools import cycle, islice
 from random import Random
+from unittest import mock
 
 from corpus import LIBRARY, of_type
 from reference import Outcome as Answered
@@ -24,11 +26,14 @@ from slips import GROUPS, SLIPS, Slip
 from stories import Story
 from tml_corpus.asking.libraries import AtPath
 from tml_corpus.asking.program import File, Program, Reply
+from tml_corpus.check import fix, judging
 from tml_corpus.check.fix import mended
 from tml_corpus.check.judgement import Judgement
 from tml_corpus.check.judging import judge_document
 from tml_corpus.check.placed import PlacedFault, PlacedWarning
 from tml_corpus.lint.kinds import chosen
+from tml_corpus.origins.restored import found_origin
+from tml_corpus.serve import document as opened
 
 LINT = chosen((), ())
 MOST_STEPS, MOST_STORIES = 4, 20
@@ -58,6 +63,13 @@ class Reference(Program):
             return super().ask(words, document, other)
         assert isinstance(document, bytes)
         return answer(words[0], document)
+
+
+def search_once() -> None:
+    """Has the keystroke that explains a fault of a document searched for once, whoever of `check`, `fix` and the editor wants it."""
+    remembered = lru_cache(maxsize=16)(found_origin)
+    for module in (fix, judging, opened):
+        unittest.enterModuleContext(mock.patch.object(module, "found_origin", remembered))
 
 
 @lru_cache(maxsize=8)

@@ -4,7 +4,7 @@ import unittest
 from collections import Counter
 from random import Random
 
-from advice import Outcome, Reference, judged, tally
+from advice import Outcome, Reference, judged, search_once, tally
 from slips import SLIPS
 from stories import Story
 
@@ -28,6 +28,10 @@ ALWAYS_CURED = {
     "end tag of another kind",
 }  # fmt: skip
 """Kinds of slips of which each is cured in one step."""
+
+
+def setUpModule() -> None:
+    search_once()
 
 
 class Cures(unittest.TestCase):

@@ -13,6 +13,7 @@ from corpus import EVENT, INSTANCE, CorpusTest, document, needed
 from tml.explaining.encoding import converted, declared_encoding, not_utf8
 from tml.statuses import MANY_BYTES, RELATIONS
 from tml.tags.source import Source
+from tml_corpus.origins.restored import MOST_BYTES
 
 TIME = '<TIMEX3 tid="t1" type="DATE"/>'
 
@@ -408,8 +409,12 @@ class Further(CorpusTest):
 
 class Hostile(CorpusTest):
     def test_documents_that_repeat_one_thing(self) -> None:
-        # Of a document with more bytes than so many, less is kept.
-        size = MANY_BYTES + 1024
+        # Of a document with more bytes than so many, less is kept, and no keystroke is searched for.
+        self.check_repeated(max(MANY_BYTES, MOST_BYTES) + 1024)
+        self.check_repeated(MANY_BYTES // 32)
+
+    def check_repeated(self, size: int) -> None:
+        """Sees that documents of this size that repeat one thing have a fault, of which little is printed."""
         parts = [
             b"\xe9",
             "é".encode() + b"\xe9",

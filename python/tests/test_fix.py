@@ -43,7 +43,6 @@ class Fixes(CorpusTest):
             ('<SIGNAL Sid="s1">x</SIGNAL>', '<SIGNAL sid="s1">x</SIGNAL>'),
             (linked.replace("BEFORE", "is-included"), linked.replace("BEFORE", "IS_INCLUDED")),
             (linked.replace("BEFORE", "SIMULTANOUS"), linked.replace("BEFORE", "SIMULTANEOUS")),
-            (linked + LINK.replace("<TLINK", "TLINK"), linked + LINK),
             (EVENT.replace("e1", "e1\u00a0") + INSTANCE, EVENT + INSTANCE),
         ])  # fmt: skip
 
@@ -62,6 +61,7 @@ class Fixes(CorpusTest):
             (TIME.replace('1998">x', '05/01/1998">Monday'), TIME.replace('1998">x', '1998-01-05">Monday')),
             (EVENT.replace(">x<", f">{EVENT}<") + INSTANCE, EVENT + INSTANCE),
             (EVENT + INSTANCE * 2, EVENT + INSTANCE),
+            (linked + LINK.replace("<TLINK", "TLINK"), linked + LINK),
         ]
         self.check_rows(rows, "--unsafe")
         for number, (inner, _) in enumerate(rows):

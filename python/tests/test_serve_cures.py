@@ -10,7 +10,7 @@ from typing import Any
 
 import messages
 import test_mistakes
-from advice import judged
+from advice import judged, search_once
 from corpus import EVENT, INSTANCE, TOP, CorpusTest, document
 from serving import state_of
 from tml_corpus.check.placed import PlacedFault, PlacedWarning
@@ -137,6 +137,10 @@ BECAUSE = {
     "{}: it is a range; write the date that is meant, or a DURATION with beginPoint and endPoint": "which date is meant is not known",
 }  # fmt: skip
 """Why there is no quick fix."""
+
+
+def setUpModule() -> None:
+    search_once()
 
 
 @cache

@@ -10,7 +10,7 @@ from typing import Any
 
 import advice
 import test_mistakes
-from advice import Reference, judged
+from advice import Reference, judged, search_once
 from corpus import EVENT, INSTANCE, TML, TOP, CorpusTest, document, needs_matrix
 from serving import Json, ServeTest, done, state_of
 from slips import SLIPS
@@ -33,6 +33,10 @@ WITHOUT_A_CURE = (
     "is far from the creation time", "February 1999 has 28 days", "the halves of a year", "shows its text in those that make sense",
 )  # fmt: skip
 """What sentences say that name nothing which could be written as it stands there."""
+
+
+def setUpModule() -> None:
+    search_once()
 
 
 class AskedReference(Asked):

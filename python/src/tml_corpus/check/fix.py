@@ -54,7 +54,7 @@ NOTATIONS: dict[int, list[tuple[str, Edits]]] = {
         ("the encoding that the file declares", lambda source: converted(source.document, declared_encoding(source.document)))
     ],
     faults.BAD_REFERENCE: [
-        ("HTML entities", lambda source: (edit for edit in reference_edits(source.document) if edit.end > edit.start + 1))
+        ("HTML entities", lambda source: (edit for edit in reference_edits(source.document) if is_entity(source.document, edit)))
     ],
     faults.BAD_MARKUP: [
         ("CDATA sections", lambda source: cdata_edits(source.document)),
@@ -215,6 +215,12 @@ def steps_by(
             yield step
 
 
+def is_entity(document: bytes, edit: Edit) -> bool:
+    """Whether an edit writes the character of an HTML entity, whose name is not one keystroke away from that of a reference of XML."""
+    name = document[edit.start + 1 : edit.end - 1].decode()
+    return name != "" and not any(is_near(name, one) for one in ("lt", "gt", "amp", "quot", "apos"))
+
+
 def in_other_letters(document: bytes, edits: Iterable[Edit]) -> Iterator[Edit]:
     """The edits that change the case of more than one letter, the sign between words, or what nobody sees, and nothing else."""
     for edit in edits:
@@ -237,17 +243,8 @@ def steps_of_warnings(program: Program, document: bytes, unsafe: bool) -> Iterat
 
 
 def is_sure(document: bytes, warning: str, edit: Edit) -> bool:
-    """Whether the cure of a warning is its only explanation: a `<` lost after a blank, a name that is one keystroke away, a date in
-    another notation."""
-    old = document[edit.start : edit.end]
-    if warning == "tag-as-text":
-        before = document[max(document.rfind(b"<", 0, edit.start), 0) : edit.start]
-        is_after_tag = before[-1:] == b">" and before.count(b">") == 1
-        is_single = (is_after_tag or before[-1:] in (b"\n", b" ")) and not before.startswith(b"<!")
-        return is_single and edit.text == b"<" and not old
-    if warning == "misspelled-attribute":
-        return is_near(old.decode("utf-8", "replace"), edit.text.decode())
-    return warning == "value-form" and OTHER_DATE.fullmatch(old) is not None
+    """Whether the cure of a warning reads another notation. What is accepted and only suspect may be meant."""
+    return warning == "value-form" and OTHER_DATE.fullmatch(document, edit.start, edit.end) is not None
 
 
 def helping(program: Program, document: bytes, fault: Fault, words: str, edits: list[Edit]) -> Step | None:

@@ -25,11 +25,19 @@ MEANT_ELSEWHERE = OTHER_RELATIONS.keys() | SAME_RELATIONS.keys() | UNCLEAR_RELAT
 MOST_COMPARED, MOST_READ = 400, 4 << 20
 """Of more origins, or of origins that are further apart so that more characters are compared, none is set aside."""
 
-BLEMISHES = ("markup in text", "nested", "shape", "identifier", "gap")
-"""What a document would hardly have, the worst first. Only the first of these sets an origin aside that has another text: what is usual
-next to other tags says nothing of a letter or a sign. The last one does so only if origins differ in white space alone."""
+IN_TEXT = ("markup in text", "slash", "bare text")
+BLEMISHES = (*IN_TEXT, "spaced value", "nested", "shape", "identifier", "gap")
+"""What a document would hardly have, the worst first. Only the first three set an origin aside that has another text: what is usual next
+to other tags says nothing of a letter or a sign. The last one does so only if origins differ in white space alone."""
 
 EDGE = re.compile("[<>\"']")
+SIGN = re.compile("(?<!(?<!-)[-=])>")
+"""A `>` in a text that is not the head of an arrow."""
+
+MOST_SPACES = 64
+"""How much white space before a tag is compared at most."""
+
+AFTER, BEFORE = re.compile(r"(?P<run>\s*+)(?P<next>\S)"), re.compile(r"(?P<next>\S)(?P<run>\s*+)\Z")
 SPACED_END = re.compile(rf"{SPACE}/?>\Z")
 
 
@@ -64,8 +72,8 @@ class Likeness:
     count: int = 0
     lefts: set[tuple[bool, bool] | None] = field(default_factory=set)
     rights: set[tuple[bool, bool] | None] = field(default_factory=set)
-    gaps: set[str] = field(default_factory=set)
-    letters: set[str] = field(default_factory=set)
+    gaps: set[tuple[str, str]] = field(default_factory=set)
+    letters: Counter[str] = field(default_factory=Counter)
     is_spaced: bool = False
     """Whether there is white space before the `>` of one."""
 
@@ -74,8 +82,8 @@ class Likeness:
         self.count += 1
         self.lefts.add(kind_of(text[tag.start - 1 : tag.start]))
         self.rights.add(kind_of(text[tag.end : tag.end + 1]))
-        self.gaps.add(gap(tag, text))
-        self.letters.add(letters(tag))
+        self.gaps.update(gaps(tag, text))
+        self.letters[letters(tag)] += 1
         self.is_spaced |= SPACED_END.search(text, tag.start, tag.end) is not None
 
 
@@ -85,8 +93,12 @@ class Style:
 
     by_name: defaultdict[str, defaultdict[str, Likeness]] = field(default_factory=lambda: defaultdict(lambda: defaultdict(Likeness)))
     """For each name and each kind of tag."""
+    by_kind: defaultdict[tuple[str, bool], Likeness] = field(default_factory=lambda: defaultdict(Likeness))
+    """For each kind of tag, and whether TimeML has the tag or it is a wrapper."""
     with_text: set[str] = field(default_factory=set)
     """The names of tags that have text of their own."""
+    has_slash: bool = False
+    """Whether there is a slash in the text."""
 
 
 def kind_of(character: str) -> tuple[bool, bool] | None:
@@ -95,8 +107,8 @@ def kind_of(character: str) -> tuple[bool, bool] | None:
 
 
 def letters(tag: Tag) -> str:
-    """How the identifier of a tag begins, up to its first digit."""
-    found = re.match(r"\D*", tag.identifier())
+    """The letters with which the identifier of a tag begins."""
+    found = re.match(r"[^\W\d_]*", tag.identifier())
     return found[0] if found else ""
 
 
@@ -105,12 +117,12 @@ def shape(identifier: str) -> str:
     return re.sub(r"\d+", "0", identifier)
 
 
-def gap(tag: Tag, text: str) -> str:
-    """The white space before a tag."""
-    start = tag.start
-    while start and text[start - 1].isspace():
-        start -= 1
-    return text[start : tag.start]
+def gaps(tag: Tag, text: str) -> Iterator[tuple[str, str]]:
+    """The white space before and after a tag, or whether a letter or digit is next to it; nothing at the end of the text."""
+    around = ("before", BEFORE.search(text, max(tag.start - MOST_SPACES, 0), tag.start)), ("after", AFTER.match(text, tag.end))
+    for side, found in around:
+        if found is not None:
+            yield side, found["run"] or ("letter" if found["next"].isalnum() else "")
 
 
 class Choice:
@@ -124,30 +136,33 @@ class Choice:
     def style_elsewhere(self) -> Style:
         """The style of the tags that no origin touches."""
         touched = sorted({place for one in self.origins for place in range(one.keystroke.start - 1, one.keystroke.end + 2)})
-        style, last, last_is_calm = Style(), 0, False
-        path: list[str] = []
+        style, path, last = Style(), list[str](), 0
         for tag in self.draft.tags:
-            is_calm = bisect_left(touched, tag.start) == bisect_right(touched, tag.end)
-            if path and is_calm and last_is_calm and path[-1] not in style.with_text and self.draft.text[last : tag.start].strip():
-                style.with_text.add(path[-1])
-            if is_calm:
+            calm = [bisect_left(touched, start) == bisect_right(touched, end) for start, end in ((last, tag.start), (tag.start, tag.end))]
+            text = NOT_TEXT.sub("", self.draft.text[last : tag.start]) if path and all(calm) else ""
+            style.with_text.update(path[-1:] if text.strip() else ())
+            style.has_slash |= "/" in text
+            if calm[1]:
                 style.by_name[tag.name][tag.kind].learn(tag, self.draft.text)
+                style.by_kind[tag.kind, tag.name in TABLE].learn(tag, self.draft.text)
             if tag.kind == "start":
                 path.append(tag.name)
             elif tag.kind == "end" and path:
                 path.pop()
-            last, last_is_calm = tag.end, is_calm
+            last = tag.end
         return style
 
     def result(self) -> Restored | Question:
         """The origin that is left, or those of each meaning; none if they are too far apart for a comparison."""
         if (self.high - self.low) * len(self.origins) > MOST_READ:
             return Question()
-        keys = [one.keystroke for one in self.origins if one.keystroke.slip is Slip.EXCHANGED]
-        exchanged = {key.start for key in keys if EDGE.search(key.text)}
+        keys = [one.keystroke for one in self.origins]
+        exchanged = {key.start for key in keys if key.slip is Slip.EXCHANGED and EDGE.search(key.text)}
+        struck = {key.start for key in keys if key.slip is Slip.STRUCK}
+        struck |= {place + 1 for place in struck if self.draft.text[place] == self.draft.text[place + 1 : place + 2]}
         groups: dict[str, list[Origin]] = {}
         for origin in self.origins:
-            if not self.is_chance(origin, exchanged):
+            if not self.is_chance(origin, exchanged, struck):
                 groups.setdefault(self.meaning(origin), []).append(origin)
         left = list(groups.values())
         if len(self.origins) <= MOST_COMPARED:
@@ -162,18 +177,33 @@ class Choice:
         unlikely = [origin for origin, found in zip(best, blemishes, strict=True) if found and not found["markup in text"]]
         return Question(likely, tuple(unlikely))
 
-    def is_chance(self, origin: Origin, exchanged: set[int]) -> bool:
+    def is_chance(self, origin: Origin, exchanged: set[int], struck: set[int]) -> bool:
         """Whether an origin needs a chance if two characters may have been exchanged at the edge of a tag or value, by the places of the
-        first of them: a finger struck a far key for nothing, or the character that was lost is also the next one."""
+        first of them: a finger struck a far key for nothing, or the character that was lost is also the next one. Or if a character may
+        be one too many, by its places: a letter that was struck twice, or next to its own key, was exchanged and is no part of a word."""
         key, text = origin.keystroke, self.draft.text
+        if key.slip is Slip.EXCHANGED and key.start in exchanged:
+            letters = [place for place in (key.start, key.start + 1) if place in struck and text[place].isalnum()]
+            return any(not self.is_far(place) and not self.is_of_word(place, {key.start}) for place in letters)
         if key.slip is Slip.STRUCK and {key.start, key.start - 1} & exchanged:
-            typed, around = text[key.start], text[max(key.start - 1, 0) : key.start] + text[key.end : key.end + 1]
-            return typed.isalnum() and typed not in around and not any(one in MEANT.get(typed, "") for one in around)
+            return text[key.start].isalnum() and self.is_far(key.start) and self.is_of_word(key.start, exchanged)
         if key.slip is Slip.LOST and key.text.isalnum():
             return (key.start in exchanged and text[key.start + 1] == key.text) or (
                 key.start - 2 in exchanged and text[key.start - 2] == key.text
             )
         return False
+
+    def is_far(self, place: int) -> bool:
+        """Whether a character is of a key that is neither that of the characters around it nor next to it."""
+        typed, around = self.draft.text[place], self.draft.text[max(place - 1, 0) : place] + self.draft.text[place + 1 : place + 2]
+        return typed not in around and not any(one in MEANT.get(typed, "") for one in around)
+
+    def is_of_word(self, place: int, exchanged: set[int]) -> bool:
+        """Whether a letter, if it is exchanged with the sign before or after it, is next to another letter or digit."""
+        text = self.draft.text
+        return (place in exchanged and text[place + 2 : place + 3].isalnum()) or (
+            place - 1 in exchanged and text[max(place - 2, 0) : max(place - 1, 0)].isalnum()
+        )
 
     def are_rivals(self, one: Origin, other: Origin) -> bool:
         """Whether a character was lost next to a key that is next to its own, by one of two origins, and that key struck for it, by the
@@ -182,7 +212,7 @@ class Choice:
             return False
         lost, struck = (one, other) if one.keystroke.slip is Slip.LOST else (other, one)
         is_near = lost.keystroke.start in (struck.keystroke.start, struck.keystroke.end)
-        return is_near and not self.own_blemishes(other)["markup in text"]
+        return is_near and not any(self.own_blemishes(other)[kind] for kind in IN_TEXT)
 
     def without_worse(self, groups: list[list[Origin]]) -> list[list[Origin]]:
         """The groups with the fewest blemishes of each kind, the worst kind first."""
@@ -191,7 +221,7 @@ class Choice:
         counted = [[self.blemishes(origin) for origin in group] for group in groups]
         left = list(range(len(groups)))
         for kind in BLEMISHES:
-            if kind != BLEMISHES[0] and len({self.text_of(groups[number][0]) for number in left}) > 1:
+            if kind not in IN_TEXT and len({self.text_of(groups[number][0]) for number in left}) > 1:
                 break
             if kind == "gap" and len({re.sub(r"\s|\\[rn]", "", self.meaning(groups[number][0])) for number in left}) > 1:
                 continue
@@ -242,9 +272,11 @@ class Choice:
     def may_be_meant(self, origin: Origin) -> Iterator[bool]:
         """For each changed value, whether it may have been meant: as one of another scheme, or as the identifier of a tag that was lost."""
         first, last = self.draft.within(origin.start, origin.end)
-        old = {name: value for tag in self.draft.tags[first:last] for name, value in tag.pairs}
-        for tag in tags_of(origin.stretch):
-            for name, value in tag.pairs if tag.name in TABLE else ():
+        tags, was_there = list(tags_of(origin.stretch)), self.draft.tags[first:last]
+        same = {tag[2:] for tag in tags} & {tag[2:] for tag in was_there}
+        old = {name: value for tag in was_there if tag[2:] not in same for name, value in tag.pairs}
+        for tag in tags:
+            for name, value in tag.pairs if tag.name in TABLE and tag[2:] not in same else ():
                 row, was = TABLE[tag.name].get(name), old.get(name, value)
                 if row is None or was == value:
                     continue
@@ -272,8 +304,9 @@ class Choice:
 
     def of_text(self, text: str, path: int) -> Iterator[str]:
         """What is unlikely in a text."""
-        yield from ["markup in text"] * text.count(">")
-        yield from ["slash"] * (text.startswith("/") + (text.endswith("/") and len(text) > 1))
+        yield from ["markup in text"] * len(SIGN.findall(text))
+        if not self.style.has_slash:
+            yield from ["slash"] * (text.startswith("/") + (text.endswith("/") and len(text) > 1))
         inner = self.draft.above[path][1] if path > 0 else ""
         if text.strip() and inner in BARE and inner not in self.style.with_text:
             yield "bare text"
@@ -287,15 +320,13 @@ class Choice:
         yield from ["glued"] * (has_some and right is not None and right not in alike.rights)
         if tag.kind == "empty" and tag.name in (ROOT, *WRAPPERS, "EVENT", "SIGNAL", "TIMEX3") and not alike.count:
             yield "shape"
-        if SPACED_END.search(part, tag.start, tag.end) and not any(one.is_spaced for one in named.values()):
+        if SPACED_END.search(part, tag.start, tag.end) and not self.style.by_kind[tag.kind, tag.name in TABLE].is_spaced:
             yield "shape"
-        if tag.name in WRAPPERS and self.is_there(tag.name.swapcase()) and not self.is_there(tag.name):
-            yield "shape"
-        if has_some and tag.name in IDENTIFIERS and not any(letters(tag) in one.letters for one in named.values()):
+        if any(value != value.strip() for _, value in tag.pairs):
+            yield "spaced value"
+        begins = sum((one.letters for one in named.values()), Counter[str]())
+        if has_some and tag.name in IDENTIFIERS and letters(tag) not in begins and 2 * len(begins) <= begins.total():
             yield "identifier"
-        if has_some and gap(tag, part) not in alike.gaps:
-            yield "gap"
-
-    def is_there(self, name: str) -> bool:
-        """Whether some tag that no origin touches has a name."""
-        return any(one.count for one in self.style.by_name[name].values())
+        usual = alike if has_some else self.style.by_kind[tag.kind, True]
+        if has_some or tag.name in TABLE:
+            yield from ["gap"] * sum(one not in usual.gaps for one in gaps(tag, part))

@@ -2,6 +2,7 @@
 
 from __future__ import annotations
 
+from collections import defaultdict
 from collections.abc import Iterator
 from enum import Enum
 from typing import NamedTuple
@@ -9,7 +10,11 @@ from typing import NamedTuple
 ROWS = (
     ("`1234567890-=", "~!@#$%^&*()_+"), ("qwertyuiop[]\\", "QWERTYUIOP{}|"), ("asdfghjkl;'", 'ASDFGHJKL:"'), ("zxcvbnm,./", "ZXCVBNM<>?"),
 )  # fmt: skip
-"""The rows of keys, without and with shift."""
+"""The rows of keys, without and with shift. A key lies between two keys of the row above it, of which its own place is the first one;
+but the row of digits begins one key further to the left."""
+
+BY_SPACE = "xcvbnm,.XCVBNM<>"
+"""What is written by the keys next to the space bar."""
 
 TYPED = "".join(sorted({*map(chr, range(32, 127)), "\n"} - set("$%()*@[\\]^`{|}~")))
 """What a key can write, but for signs without which no tag, value or reference lacks anything."""
@@ -34,19 +39,28 @@ class Keystroke(NamedTuple):
 
 
 def meant_by_keys() -> dict[str, str]:
-    """For each character those that may have been meant: of the keys next to its own in the row, or of its own with another shift."""
-    found: dict[str, set[str]] = {}
-    for plain, shifted in ROWS:
-        for place, (low, high) in enumerate(zip(plain, shifted, strict=True)):
-            found.setdefault(low, set()).add(high)
-            found.setdefault(high, set()).add(low)
-            for near in {max(place - 1, 0), min(place + 1, len(plain) - 1)} - {place}:
-                found[low].add(plain[near])
-                found[high].add(shifted[near])
-                # A key next to the right one may be struck before shift is.
-                found[low].update(shifted[near] if plain[near].isalpha() else "")
-    # One slash is written for the other.
+    """For each character those that may have been meant: of the keys next to its own, or of its own with another shift."""
+    found: defaultdict[str, set[str]] = defaultdict(set)
+
+    def join(one: str, other: str) -> None:
+        found[one].add(other)
+        found[other].add(one)
+
+    keys = {(row, place): pair for row, those in enumerate(ROWS) for place, pair in enumerate(zip(*those, strict=True))}
+    for (row, place), pair in keys.items():
+        join(*pair)
+        left, above = keys.get((row, place - 1)), place + (row == 1)
+        for near in filter(None, (left, keys.get((row - 1, above)), keys.get((row - 1, above + 1)))):
+            join(pair[0], near[0])
+            join(pair[1], near[1])
+            # A key next to the right one may be struck before shift is.
+            found[pair[0]].add(near[1])
+            found[near[0]].add(pair[1])
+    for one in BY_SPACE:
+        join(one, " ")
+    # One slash is written for the other, and the key of the line feed is next to the quotes.
     found["\\"].add("/")
+    found["\n"].update("'\"")
     return {typed: "".join(sorted(meant)) for typed, meant in found.items()}
 
 

@@ -24,8 +24,8 @@ MOST_BYTES = 5 << 16
 MOST_TOLD = 3
 """How many keystrokes a sentence names at most."""
 
-HIDDEN_TAG = re.compile(rb"<!--[^<>]*+<(?!!)")
-"""A comment with a tag in it: either it is meant so, or the end of the comment is at fault, which may explain any fault."""
+SWALLOWED = re.compile(rb"<!--(?:[^<-]|<(?!!--)|-(?!->))*+<!--")
+"""A comment in which another one begins: the end of the first one may be at fault, which may explain any fault."""
 
 WELL_FORMED = re.compile(rb"<!--.*?-->|<[^<>]*>", re.DOTALL)
 
@@ -47,7 +47,7 @@ class Found:
 
 def found_origin(program: Program, document: bytes, fault: Fault) -> Found:
     """What one keystroke explains of the first fault of a document."""
-    if fault.number == NOT_UTF8 or len(document) > MOST_BYTES or HIDDEN_TAG.search(document):
+    if fault.number == NOT_UTF8 or len(document) > MOST_BYTES or SWALLOWED.search(document):
         return Found()
     text = document.decode("utf-8")
     draft = Draft(text)

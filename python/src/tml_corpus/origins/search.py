@@ -12,7 +12,7 @@ from tml.explaining.faults import Fault
 from tml.tags.profile import IDENTIFIERS, LINK_TAGS, TABLE
 
 from .draft import BROKEN, NOWHERE, SPACE, TAG, Draft, Tag, tags_of_units
-from .keyboard import MEANT, TYPED, Keystroke, undone
+from .keyboard import MEANT, TYPED, Keystroke, Slip, undone
 
 Check = Callable[[str], Fault | None]
 """What `tml` says of a text: its first fault, whose place counts characters, or None if it accepts the text."""
@@ -30,6 +30,12 @@ characters together. If that does not do, nothing is decided."""
 EACH, WHOLE, KNOWN = 64, 8, 2000
 """To try a keystroke takes as long as to read so many characters more; so many times as long if it makes tags of all that is around; and so
 many characters more if the document may have these tags."""
+
+ALIKE = {one: kind for kind, those in (("letter", "_:"), ("digit", ".-"), ("sign", "!#&+,;?"), ("space", " \n")) for one in those}
+ALIKE |= {one: "letter" if one.isalpha() else "digit" for one in TYPED if one.isalnum()}
+"""The characters that markup takes alike but in comments and declarations: if one of them leaves a tag broken, so do the others."""
+
+OTHER_MARKUP = re.compile("<[!?]")
 
 LOST_BEGINNING = re.compile(rf"(?<![</A-Za-z])[^<>/\s]?(?:{'|'.join(TABLE)}){SPACE}[^<>]{{,1024}}>")
 """A tag without its `<`, or with another character in its place."""
@@ -169,8 +175,11 @@ class Search:
 
     def well_formed(self, kept: list[tuple[Origin, list[Tag]]]) -> Iterator[tuple[Origin, list[Tag]]]:
         """The stretches that are units, of which each tag may be one of the document, each with its tags. They are kept too."""
-        seen, left = set(), MOST_READ
+        seen, broken, left = set(), set[tuple[int, str]](), MOST_READ
         for key in chain.from_iterable(undone(self.draft.text, *one) for one in stretches(self.draft, self.fault)):
+            alike = (key.start, ALIKE.get(key.text, "")) if key.slip is Slip.LOST else (-1, "")
+            if alike in broken:
+                continue
             origin = self.of_keystroke(key)
             left -= EACH if origin is None else EACH + len(origin.stretch)
             if left < 0:
@@ -181,7 +190,9 @@ class Search:
             seen.add(origin[1:])
             tags = tags_of_units(origin.stretch)
             left -= 0 if tags is None else (WHOLE - 1) * len(origin.stretch)
-            if tags is not None and not BAD_REFERENCE.search(origin.stretch):
+            if tags is None and alike[1] and not OTHER_MARKUP.search(origin.stretch):
+                broken.add(alike)
+            elif tags is not None and not BAD_REFERENCE.search(origin.stretch):
                 first, last = self.draft.within(origin.start, origin.end)
                 if all(self.draft.is_known(tag, first, last) for tag in tags):
                     left -= KNOWN
@@ -288,6 +299,9 @@ class Search:
     def is_good(self, written: str, tag: Tag) -> bool:
         """Whether `tml` finds no fault in the attributes of a tag."""
         if written not in self.good:
+            self.checked += 1
+            if self.checked > self.most_checked:
+                return False
             whole = written if tag.kind == "empty" else written[:-1] + "/>"
             fault = self.check(f"<TimeML>{whole}</TimeML>")
             self.good[written] = fault is None or phase(fault.number) == phase(faults.DUPLICATE)
