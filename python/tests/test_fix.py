@@ -118,6 +118,11 @@ class Fixes(CorpusTest):
                     content.replace(b"ISO-8859-1", b"UTF-8").replace(b"f\xe9", "fé".encode()) if content.startswith(b"<?xml") else content
                 )
                 self.assertEqual(self.read_bytes("d.xml"), changed)
+        self.write("d.xml", b"<TimeML>caf\xe9 \\x41</TimeML>")
+        for name in ("unicode_escape", "utf-7", "shift_jis"):
+            with self.subTest(name):
+                lines = self.run_it("fix", "--from", name, "d.xml")[1]
+                self.assertEqual(lines[1], f"  its bytes are not of the encoding {name}, or it declares another one")
         for name in ("no-such", "base64", "a\0b", "idna" * 99):
             with self.subTest(name):
                 self.assertEqual(self.run_it("fix", "--from", name.replace("\0", ""), "d.xml")[0], 2)

@@ -63,9 +63,12 @@ class Keystrokes(unittest.TestCase):
         found = tally(self.program, SLIPS, SEED)
         counts = found.all()
         self.assertEqual([one for one in found.notable if one.startswith(("damage", "other"))], [])
-        self.assertGreaterEqual(share(counts, "restored"), 0.82, counts)
+        self.assertGreaterEqual(share(counts, "restored"), 0.86, counts)
         asked = ("question with the original", "question without it", "no candidate")
         self.assertGreaterEqual(share(counts, asked[0], of=asked), 0.99, found.notable)
+        seconds = sorted(found.seconds)
+        self.assertLess(seconds[len(seconds) // 2], 0.1)
+        self.assertLess(seconds[-1], 1.5)
 
     def test_rows(self) -> None:
         for meant, typed in ROWS:

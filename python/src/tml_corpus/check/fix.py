@@ -9,7 +9,7 @@ from functools import cache, partial
 from itertools import chain, islice
 
 from tml.explaining import faults
-from tml.explaining.encoding import converted, declared_encoding, is_undeclared, readings
+from tml.explaining.encoding import converted, declared_encoding, decoding, is_undeclared, readings
 from tml.explaining.explain import OF_TAGS, explain
 from tml.explaining.faults import Fault, read_fault
 from tml.explaining.markup import cdata_edits, quote_edits, reference_edits
@@ -147,6 +147,8 @@ def fix(program: Program, found: Found, writes: bool, unsafe: bool = False, enco
     if writes and fixed.changes:
         write(fixed, found)
     perhaps = list(islice(fixed.perhaps(), MOST_CANDIDATES + 1))
+    if encoding is not None and fixed.left is not None and fixed.left.number == faults.NOT_UTF8:
+        perhaps.insert(0, f"its bytes are not of the encoding {encoding}, or it declares another one")
     return FixReport(report(found.path, fixed, writes, perhaps), bool(fixed.changes), fixed.left is not None, bool(perhaps))
 
 
@@ -177,7 +179,7 @@ def mended(program: Program, document: bytes, unsafe: bool = False, encoding: st
 def step_from(program: Program, document: bytes, fault: Fault, encoding: str | None) -> Iterator[Step]:
     """The change out of an encoding of a document that is not UTF-8 and declares no encoding that it can be of."""
     if encoding is not None and fault.number == faults.NOT_UTF8 and is_undeclared(document):
-        step = helping(program, document, fault, f"the encoding {encoding}", list(converted(document, encoding)))
+        step = helping(program, document, fault, f"the encoding {encoding}", list(converted(document, decoding(document, encoding))))
         yield from [] if step is None else [step]
 
 
