@@ -7,7 +7,6 @@ ghost use Rattle.std.specs.Prelude.{IfOk, OnOk, length, ◌<◌, ◌≡◌};
 
 use net_core::{Atom, Memory};
 use std::alloc::Global;
-use std::cmp::Reverse;
 
 /// The numbers of orders, mostly in a sequence in which all orders that leave the second point of an order come before it.
 #[derive(Drop)]
@@ -28,9 +27,8 @@ impl Sequence {
     }
 }
 
-/// The numbers of orders, mostly in a sequence in which all orders that leave the second point of an order come before it. Of
-/// the orders that leave one point those to points that were left last come first, since the others may follow from these. It
-/// is found by a search along the orders, depth first. What is added in whatever sequence has the same closure.
+/// The numbers of orders, mostly in a sequence in which all orders that leave the second point of an order come before it. It is
+/// found by a search along the orders, depth first.
 ///
 /// # Errors
 ///
@@ -48,7 +46,7 @@ pub fn sequence_of(alloc: Global, points: u32, orders: &[Atom]) -> Result<Sequen
     };
     for point in 0..points as usize {
         enter(&leaving, point, &mut seen, &mut path)?;
-        descend(alloc, &leaving, orders, &mut seen, &mut path, &mut sequence)?;
+        descend(&leaving, orders, &mut seen, &mut path, &mut sequence)?;
     }
     Ok(sequence)
 }
@@ -116,7 +114,6 @@ fn enter(
 /// Follows orders to points that were not entered, and back if a point has no more. A step leaves a point by an order, or for
 /// good: so there are no more steps than points and orders.
 fn descend(
-    alloc: Global,
     leaving: &Leaving,
     orders: &[Atom],
     seen: &mut [bool],
@@ -139,7 +136,7 @@ fn descend(
         };
         match visit.next {
             Some(k) => follow(leaving, orders, visit.point, k, seen, path)?,
-            None => leave(alloc, leaving, orders, visit.point, sequence)?,
+            None => leave(leaving, visit.point, sequence)?,
         }
     }
     Ok(())
@@ -168,45 +165,31 @@ fn follow(
     enter(leaving, orders[k].to as usize, seen, path)
 }
 
-/// Leaves a point for good: appends the orders that leave it, first those to points that were left last.
-fn leave(
-    alloc: Global,
-    leaving: &Leaving,
-    orders: &[Atom],
-    point: usize,
-    sequence: &mut Sequence,
-) -> Result<(), Memory>
+/// Leaves a point for good: appends the orders that leave it.
+fn leave(leaving: &Leaving, point: usize, sequence: &mut Sequence) -> Result<(), Memory>
     requires leaving { AreLeavingLists leaving.now }
-    requires orders { length leaving.now.before.items ≡ length orders.now }
     requires point { point < length leaving.now.last.items }
-    requires sequence { IsSequence (length leaving.now.last.items) orders.now sequence.old }
-    ensures { OnOk result (IsSequence (length leaving.now.last.items) orders.now sequence.new) }
+    requires numbers { All (λ k. k < length leaving.now.before.items) sequence.old.numbers.items }
+    requires left { length sequence.old.left.items ≡ length leaving.now.last.items }
+    ensures numbers { OnOk result (All (λ k. k < length leaving.now.before.items) sequence.new.numbers.items) }
+    ensures left { OnOk result (length sequence.new.left.items ≡ length leaving.now.last.items) }
 {
-    let mut own = numbers_leaving(alloc, leaving, point)?;
-    let left = &sequence.left;
-    own.sort_unstable_by_key(|number| Reverse(left_to(left, orders, *number)));
-    sequence.numbers.append(&mut own)?;
+    push_leaving(leaving, point, &mut sequence.numbers)?;
     sequence.left[point] = sequence.numbers.len() + 1;
     Ok(())
 }
 
-/// When the search left the point that the order of a number leads to.
-fn left_to(left: &[usize], orders: &[Atom], number: usize) -> Option<usize> {
-    let order = orders.get(number)?;
-    left.get(order.to as usize).copied()
-}
-
-/// The numbers of the orders that leave a point.
-fn numbers_leaving(alloc: Global, leaving: &Leaving, point: usize) -> Result<Vec<usize>, Memory>
+/// Appends the orders that leave a point.
+fn push_leaving(leaving: &Leaving, point: usize, numbers: &mut Vec<usize>) -> Result<(), Memory>
     requires leaving { AreLeavingLists leaving.now }
     requires point { point < length leaving.now.last.items }
-    ensures { IfOk result (λ numbers. All (λ k. k < length leaving.now.before.items) numbers.items) }
+    requires numbers { All (λ k. k < length leaving.now.before.items) numbers.old.items }
+    ensures { OnOk result (All (λ k. k < length leaving.now.before.items) numbers.new.items) }
 {
-    let mut numbers = Vec::new(alloc);
     let mut next = leaving.last[point];
     while let Some(k) = next {
         numbers.push(k)?;
         next = leaving.before[k];
     }
-    Ok(numbers)
+    Ok(())
 }

@@ -2,7 +2,7 @@ use Rattle.std.proofs.Common.{◌<◌, length}
 use Rattle.std.specs.List.{All}
 use Rattle.net_orders.specs.Sequence.{IsOrderNumber}
 use Rattle.net_orders.proofs.Measures.{numbers_left}
-use Rattle.net_orders.proofs.sequence.numbers_leaving.Given as goal
+use Rattle.net_orders.proofs.sequence.push_leaving.Given as goal
 
 abbrev pub invariant-loop-next : goal.invariant-loop-next
 invariant-loop-next l = record {
