@@ -22,13 +22,7 @@ NAME = "tml_c"
 OUT = CRATES / NAME / "out"
 ARCHIVE = OUT / f"lib{NAME}.a"
 MODULE = OUT / f"lib{NAME}.bc"
-KEEPING = """#!/bin/sh
-for word; do
-  case $word in *.bc) cp -- "$word" {kept} || exit ;; esac
-done
-exec {clang} "$@"
-"""
-"""A compiler that keeps the module that it is handed."""
+COMPILER = Path(__file__).resolve().parent / "templates/clang"
 
 
 def module_of(kit: str) -> Path:
@@ -75,7 +69,8 @@ def toolchain(kit: str, folder: Path, kept: Path) -> str:
     for name in ("bin/ld.lld", "bin/llvm-ar", "bin/rattle-x64", "lib"):
         (folder / name).symlink_to(f"{kit}/toolchain/{name}")
     clang = folder / "bin/clang"
-    clang.write_text(KEEPING.format(kept=quote(str(kept)), clang=quote(f"{kit}/toolchain/bin/clang")), encoding="utf-8")
+    text = COMPILER.read_text(encoding="utf-8").replace("@KEPT@", quote(str(kept)))
+    clang.write_text(text.replace("@CLANG@", quote(f"{kit}/toolchain/bin/clang")), encoding="utf-8")
     clang.chmod(0o755)
     return str(folder)
 

@@ -17,7 +17,7 @@ import re
 import shutil
 import sys
 import tempfile
-from collections.abc import Iterable, Iterator
+from collections.abc import Iterable, Iterator, Sequence
 from pathlib import Path
 
 from building.compiling import TOP, module_of
@@ -27,6 +27,7 @@ from tml_corpus import VERSION
 
 SOURCES = TOP / "web"
 HANDED_OUT = ("tml.mjs", "tml.d.mts")
+PARTS = ("heap", "memory", "shuffle")
 PROGRAMS = ("rt", "wasm-opt")
 FEATURES = ("bulk-memory", "mutable-globals", "nontrapping-fptoint", "sign-ext", "simd128")
 """What the module needs of a browser beyond the first WebAssembly."""
@@ -78,7 +79,7 @@ def made(kit: str, module: Path) -> bytes:
         run([clang, "-S", "-emit-llvm", "-x", "ir", str(module), "-o", f"{folder}/handed.ll"])
         handed = folder / "handed.ll"
         (folder / "proved.ll").write_text(for_wasm(handed.read_text(encoding="utf-8")), encoding="utf-8")
-        return lowered(linked(clang, folder, [folder / "proved.ll", *(SOURCES / f"{part}.c" for part in ("heap", "memory", "shuffle"))]))
+        return lowered(linked(clang, folder, [folder / "proved.ll", *(SOURCES / f"{part}.c" for part in PARTS)]))
 
 
 def for_wasm(text: str) -> str:
@@ -91,18 +92,24 @@ def for_wasm(text: str) -> str:
     return text
 
 
-def linked(clang: str, folder: Path, sources: list[Path]) -> Path:
-    """A module with 64-bit memory of these sources, which lack nothing."""
+def linked(clang: str, folder: Path, sources: Sequence[Path], exports: Sequence[str] = EXPORTS) -> Path:
+    """A module with addresses of 64 bits of these sources, which lack nothing."""
     objects = [folder / f"{source.stem}.o" for source in sources]
-    flags = ["--target=wasm64-unknown-unknown", "-mcpu=mvp", *(f"-m{name}" for name in FEATURES), *(word for name in SOUND for word in ("-mllvm", f"-{name}")), "-O3", "-Werror"]
+    flags = [
+        "--target=wasm64-unknown-unknown",
+        "-mcpu=mvp",
+        *(f"-m{name}" for name in FEATURES),
+        *(word for name in SOUND for word in ("-mllvm", f"-{name}")),
+        "-O3",
+        "-Werror",
+    ]
     for source, made_of_it in zip(sources, objects, strict=True):
         words = ["-x", "ir", "-Wno-override-module"] if source.suffix == ".ll" else ["-std=c17", "-ffreestanding", "-nostdinc", "-Wall"]
         run([clang, *flags, *words, "-c", str(source), "-o", str(made_of_it)])
     linker, made_of_all = folder / "wasm-ld", folder / "wide.wasm"
     linker.symlink_to(clang)
-    exports = (f"--export={name}" for name in EXPORTS)
-    words = ["-mwasm64", "--no-entry", "--stack-first", "-z", f"stack-size={STACK}", "--gc-sections", "--strip-all", *exports]
-    run([str(linker), *words, *map(str, objects), "-o", str(made_of_all)])
+    words = ["-mwasm64", "--no-entry", "--stack-first", "-z", f"stack-size={STACK}", "--gc-sections", "--strip-all"]
+    run([str(linker), *words, *(f"--export={name}" for name in exports), *map(str, objects), "-o", str(made_of_all)])
     return made_of_all
 
 
