@@ -37,13 +37,23 @@ static u64 memory(void) {
     return __builtin_wasm_memory_size(0) * PAGE;
 }
 
-/* Whether there is memory up to here, perhaps since it grew. What memory.grow answers is not looked at, since the lowering
- * to addresses of 32 bits makes another number of its -1. */
+/* Has memory grow up to here. What memory.grow answers is not looked at, since the lowering to addresses of 32 bits makes
+ * another number of its -1. */
+static void grow(u64 wanted) {
+    if (wanted > memory())
+        __builtin_wasm_memory_grow(0, (wanted - memory() + PAGE - 1) / PAGE);
+}
+
+/* Whether there is memory up to here, perhaps since it grew. That takes long, so it grows by an eighth more, unless the host
+ * refuses this. */
 static int reaches(u64 wanted) {
     if (wanted > MOST)
         return 0;
-    if (wanted > memory())
-        __builtin_wasm_memory_grow(0, (wanted - memory() + PAGE - 1) / PAGE);
+    if (wanted > memory()) {
+        u64 roomy = wanted + memory() / 8;
+        grow(roomy < MOST ? roomy : MOST);
+        grow(wanted);
+    }
     return wanted <= memory();
 }
 
