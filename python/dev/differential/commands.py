@@ -120,13 +120,13 @@ def libraries_of(given: argparse.Namespace) -> Libraries | None:
 
 def print_tally(trial: Trial, seed: int, seconds: float) -> None:
     """Prints how many cases there were."""
-    tally = trial.tally
+    tally, asked = trial.tally, trial.libraries.asked if trial.libraries is not None else None
     print("; ".join(f"{subject} {number}" for subject, number in sorted(tally.subjects.items())))
     print("statuses: " + ", ".join(f"{number} of {status}" for status, number in sorted(tally.statuses.items())))
     if tally.not_asked:
-        print("not asked of the library: " + ", ".join(f"{number} for {reason}" for reason, number in sorted(tally.not_asked.items())))
+        print(f"not asked of the {asked}: " + ", ".join(f"{number} for {reason}" for reason, number in sorted(tally.not_asked.items())))
     speed = tally.cases / max(seconds, 0.001)
-    by_library = f", {tally.by_library} of them by the {trial.libraries.asked} too" if trial.libraries is not None else ""
+    by_library = f", {tally.by_library} of them by the {asked} too" if asked is not None else ""
     print(f"{tally.cases} cases, {len(tally.differences)} differences, seed {seed}, {speed:.0f} cases a second{by_library}")
 
 
