@@ -405,9 +405,9 @@ class Command(unittest.TestCase):
             with self.subTest(case.words):
                 self.assertEqual(self.both(case).status, status)
 
-    def answer(self, *words: str | Path, **how: int) -> tuple[int, bytes, bytes]:
-        """What Node answers to words: its status, text and what it says beside that."""
-        done = subprocess.run(["node", *words], capture_output=True, check=False, timeout=300, **how)
+    def answer(self, *words: str | Path, given: int | None = None) -> tuple[int, bytes, bytes]:
+        """What Node answers to words, and perhaps a standard input: its status, text and what it says beside that."""
+        done = subprocess.run(["node", *words], stdin=given, capture_output=True, check=False, timeout=300)
         return done.returncode, done.stdout, done.stderr
 
     def test_a_file_that_is_not_reached(self) -> None:
@@ -422,7 +422,7 @@ class Command(unittest.TestCase):
         script = f"import os, time; time.sleep(0.5); os.write({writing}, b'<TimeML/>')"
         with subprocess.Popen([*BARE, "-c", script], pass_fds=(writing,)):
             os.close(writing)
-            status, text, _ = self.answer(self.folder / "tml.mjs", "check", "-", stdin=reading)
+            status, text, _ = self.answer(self.folder / "tml.mjs", "check", "-", given=reading)
         os.close(reading)
         self.assertEqual((status, text.splitlines()[0]), (0, b"accepted"))
 

@@ -36,13 +36,15 @@ OF_BINARYEN = {"nontrapping-fptoint": "nontrapping-float-to-int", "simd128": "si
 EXPORTS = ("tml_answer", "tml_most_of_document", "tml_most_of_evidence", "room", "forget", "__stack_pointer")
 STACK = 4 << 20
 """How many bytes of memory the stack has. Past its end is no memory, since it comes first."""
-PROCESSOR = r'"target-cpu"="[^"]*"'
-TARGET = r"(?m)^target (?:triple|datalayout) = .*\n"
+TARGET = """target datalayout = "e-m:e-p270:32:32-p271:32:32-p272:64:64-i64:64-i128:128-f80:128-n8:16:32:64-S128"
+target triple = "x86_64-unknown-linux-gnu"
+"""
+PROCESSOR = '"target-cpu"="x86-64-v2"'
+SHUFFLE = "@llvm.x86.ssse3.pshuf.b.128"
 SOUND = ("trap-unreachable", "disable-machine-licm", "disable-postra-machine-licm", "sink-common-insts=false")
 """What rattle has clang do, or leave, wherever it compiles for."""
 LEFT_OUT = re.compile(r" *\(v128\.(?:load\d+_(?:splat|zero|lane)|load\d+x\d+_[su]|store\d+_lane)\b")
 """The vectors whose addresses `wasm-opt --memory64-lowering` leaves out."""
-SHUFFLE = "@llvm.x86.ssse3.pshuf.b.128"
 
 
 def main(words: list[str]) -> int:
@@ -83,12 +85,12 @@ def made(kit: str, module: Path) -> bytes:
 
 
 def for_wasm(text: str) -> str:
-    """The text of the module for another processor. The data lie as they did: pointers have 64 bits on both."""
+    """The text of the module for another processor, on which all data lie as they did: pointers have 64 bits on both."""
     features = ",".join(f"+{name}" for name in FEATURES)
-    for pattern, other in ((TARGET, ""), (PROCESSOR, f'"target-features"="{features}"'), (re.escape(SHUFFLE), "@tml_shuffle")):
-        text, count = re.subn(pattern, other, text)
-        if count == 0:
-            raise CannotMake(f"the module of rattle has no {pattern}")
+    for old, new in ((TARGET, ""), (PROCESSOR, f'"target-features"="{features}"'), (SHUFFLE, "@tml_shuffle")):
+        if old not in text:
+            raise CannotMake(f"the module of rattle has no {old!r}")
+        text = text.replace(old, new)
     return text
 
 
@@ -133,7 +135,7 @@ def of_vectors(lines: Iterable[str]) -> Iterator[str]:
     is_address = False
     for line in lines:
         indented = len(line) - len(line.lstrip(" "))
-        if is_address:
+        if is_address and not line.startswith("(i32.wrap_i64", indented):
             yield "(i32.wrap_i64"
             opened.append(indented)
         yield line
