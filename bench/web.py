@@ -1,5 +1,5 @@
 #!/usr/bin/env python3
-"""Measures the module for browsers in Node, beside the program.
+"""Measures the module for browsers in Node, next to the program.
 
 Prints the bytes of its files, how long it takes to load, and a table in Markdown with a row for each command and document of
 beside.py: the least milliseconds of seven questions in one process of Node, the first of them, which is answered by code that is

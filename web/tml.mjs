@@ -152,17 +152,17 @@ function replied(tml, fs, words) {
   }
 }
 
-/** What a file holds, up to one byte more than so many, or null where it cannot be read. */
+/** What a file holds, up to one byte more than so many, or null if it cannot be read. */
 function read(fs, name, most) {
   let file;
   try {
     file = name === "-" ? 0 : fs.openSync(name);
+    const piece = Buffer.alloc(1 << 20);
     const pieces = [];
     for (let left = most + 1; left > 0; ) {
-      const piece = Buffer.allocUnsafe(Math.min(left, 1 << 20));
-      const count = patiently(() => fs.readSync(file, piece));
+      const count = patiently(() => fs.readSync(file, piece, 0, Math.min(left, piece.length), null));
       if (count === 0) break;
-      pieces.push(piece.subarray(0, count));
+      pieces.push(Buffer.from(piece.subarray(0, count)));
       left -= count;
     }
     return Buffer.concat(pieces);
@@ -208,7 +208,7 @@ function wordsOfProcess() {
   return words.some((word) => /[\ufffd\p{Surrogate}]/u.test(word)) ? [NO_WORD] : words;
 }
 
-/** Does what the program does; where it cannot, it says why, with a status that is no answer. */
+/** Does what the program does; if it cannot, it says why, with a status that is no answer. */
 async function main() {
   try {
     process.exitCode = await answered(wordsOfProcess());

@@ -115,7 +115,7 @@ class Build(unittest.TestCase):
         (self.kit / "bin" / name).chmod(0o755)
 
     def build(self, prover: str) -> tuple[int, list[str], list[str]]:
-        """The status, what was printed, and what was said beside it, where the prover is this script."""
+        """The status, what was printed, and what was said on standard error, if the prover is this script."""
         self.program("rattle", prover)
         variables = {**os.environ, "PATH": f"{self.kit}/bin:{os.environ['PATH']}", "PYTHONDONTWRITEBYTECODE": "1"}
         words = [*BARE, str(self.top / "tools/web/build"), str(self.top / "made/here")]
@@ -236,6 +236,14 @@ class Module(unittest.TestCase):
             self.assertEqual(begun(self.said[name]), (3, "usage:"), name)
         self.assertEqual(self.said["a word that is a pair of surrogates"], [8, "unknown X\n"])
 
+    def test_the_example(self) -> None:
+        example = match_in(r"```js\n(.*?)```", text_at("docs/WEB.md"), re.DOTALL)[1]
+        with tempfile.TemporaryDirectory() as held:
+            folder = shutil.copytree(FOLDER, Path(held, "web"))
+            (folder / "example.mjs").write_text(example, encoding="utf-8")
+            done = subprocess.run(["node", "example.mjs"], cwd=folder, capture_output=True, text=True, check=True, timeout=60)
+        self.assertEqual(done.stdout.splitlines()[0], "true accepted")
+
     def test_misuse(self) -> None:
         for name in ("a word that is a number", "words that are no list", "a file that is a text", "a file that is a buffer"):
             self.assertEqual(self.said[name], "TypeError", name)
@@ -258,7 +266,7 @@ def hostile() -> Iterator[Case]:
 
 
 class Limited(Modules):
-    """The module where its memory has so many pages at most."""
+    """The module with a memory of so many pages at most."""
 
     def __init__(self, folder: Path, pages: int) -> None:
         self.pages = pages
@@ -406,7 +414,7 @@ class Command(unittest.TestCase):
                 self.assertEqual(self.both(case).status, status)
 
     def answer(self, *words: str | Path, given: int | None = None) -> tuple[int, bytes, bytes]:
-        """What Node answers to words, and perhaps a standard input: its status, text and what it says beside that."""
+        """What Node answers to words, and perhaps a standard input: its status, its text, and what it says on standard error."""
         done = subprocess.run(["node", *words], stdin=given, capture_output=True, check=False, timeout=300)
         return done.returncode, done.stdout, done.stderr
 
