@@ -10,11 +10,13 @@ import shutil
 import subprocess
 import tempfile
 import unittest
+from base64 import b64encode
 from collections.abc import Iterator
 from functools import cache
 from pathlib import Path
 from random import Random
 
+from browser import Browser, needs_browser
 from building import web
 from building.compiling import MODULE
 from building.linking import folder_of_kit
@@ -248,6 +250,55 @@ class Module(unittest.TestCase):
         for name in ("a word that is a number", "words that are no list", "a file that is a text", "a file that is a buffer"):
             self.assertEqual(self.said[name], "TypeError", name)
         self.assertEqual(self.said["bytes that are no module"], "CompileError")
+
+
+PAGE = """<!DOCTYPE html>
+<meta charset="utf-8">
+<meta http-equiv="Content-Security-Policy"
+  content="default-src 'none'; script-src 'unsafe-inline' 'wasm-unsafe-eval' blob:; worker-src blob:">
+<title>tml</title>
+"""
+ANSWERS = """(async (script, module, file) => {
+  const blob = (text) => URL.createObjectURL(new Blob([text], { type: "text/javascript" }));
+  const bytes = (text) => Uint8Array.from(atob(text), (one) => one.charCodeAt(0));
+  const asked = async (load, [module, file]) => {
+    const { status, text } = (await load(module)).run(["solve", "first"], file);
+    return [status, new TextDecoder().decode(text)];
+  };
+  const question = [bytes(module), bytes(file)];
+  // A page from the disk can import a blob, and its worker cannot.
+  const plain = script.split("// The program, in Node.")[0].replaceAll(/^export /gm, "");
+  const worker = new Worker(blob(`${plain}; onmessage = async ({ data }) => postMessage(await (${asked})(load, data).catch(String))`));
+  const inWorker = new Promise((answered) => {
+    worker.onmessage = ({ data }) => answered(data);
+    worker.onerror = ({ message }) => answered(message);
+  });
+  worker.postMessage(question);
+  return [await asked((await import(blob(script))).load, question), await inWorker];
+})"""
+"""What the module answers in a page and in its worker, both without a server."""
+
+
+@needs_browser
+@needs_module
+@needs_program
+class InBrowser(unittest.TestCase):
+    """The module in a page that is opened from the disk and may fetch nothing."""
+
+    def test_page_and_worker(self) -> None:
+        given = [
+            text_at(str(FOLDER / "tml.mjs")),
+            *(b64encode(content).decode() for content in ((FOLDER / "tml.wasm").read_bytes(), CLASHES)),
+        ]
+        done = subprocess.run([TML, "solve", "-"], input=CLASHES, capture_output=True, check=False, timeout=60)
+        with tempfile.TemporaryDirectory() as folder, Browser() as browser:
+            page = Path(folder, "page.html")
+            page.write_text(PAGE, encoding="utf-8")
+            browser.open(str(page))
+            expression = f"{ANSWERS}({', '.join(map(json.dumps, given))})"
+            answer = browser.ask("Runtime.evaluate", expression=expression, awaitPromise=True, returnByValue=True)
+            self.assertEqual(browser.said, [])
+        self.assertEqual(answer["result"].get("value"), [[done.returncode, done.stdout.decode()]] * 2, answer)
 
 
 def hostile() -> Iterator[Case]:
