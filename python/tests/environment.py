@@ -30,7 +30,7 @@ NEW_ENOUGH = "import sys; sys.exit(sys.version_info < (3, 11))"
 PROGRAMS = "/usr/local/sbin:/usr/local/bin:/usr/sbin:/usr/bin:/sbin:/bin"
 """The folders in which the tests find programs."""
 
-NAMED = ("TML", "TML_LIBRARY", "TML_ROWS", "TML_VERIFY", "TML_ARCHIVE")
+NAMED = ("TML", "TML_LIBRARY", "TML_ROWS", "TML_VERIFY", "TML_ARCHIVE", "TML_WEB")
 """The variables of the caller that are kept: each names a file that is tested."""
 
 LIMITS = {

@@ -14,7 +14,7 @@ from random import Random
 
 from differential import reals
 from differential.keeping import keep, kept
-from differential.libraries import Libraries, library_path
+from differential.libraries import Libraries, Modules, library_path
 from differential.programs import Programs, program_path, rows_path
 from differential.reducing import reduced
 from differential.rows import Rows
@@ -50,6 +50,7 @@ def parsed(words: Sequence[str]) -> argparse.Namespace:
     parser.add_argument("--processes", action="store_true", help="a process for each case, and no tables")
     asked = parser.add_mutually_exclusive_group()
     asked.add_argument("--library", type=Path, metavar="FILE", help="a library that is asked too (TML_LIBRARY, or the one that was built)")
+    asked.add_argument("--module", type=Path, metavar="DIR", help="ask the module that tools/web/build made there, and no library")
     asked.add_argument("--no-library", action="store_true", help="ask no library")
     parser.add_argument("--keep", type=Path, help="the folder for differences (a new one)")
     parser.add_argument("--small", type=int, default=3, metavar="N", help="how many differences are reduced at once (3)")
@@ -105,7 +106,9 @@ def go_on(trial: Trial, given: argparse.Namespace) -> None:
 
 
 def libraries_of(given: argparse.Namespace) -> Libraries | None:
-    """The library that is asked too; without one a line says so."""
+    """The library or module that is asked too; without one a line says so."""
+    if given.module is not None:
+        return Modules(str(given.module.absolute()))
     path = str(given.library.absolute()) if given.library is not None else library_path()
     if given.no_library:
         return None
@@ -117,13 +120,13 @@ def libraries_of(given: argparse.Namespace) -> Libraries | None:
 
 def print_tally(trial: Trial, seed: int, seconds: float) -> None:
     """Prints how many cases there were."""
-    tally = trial.tally
+    tally, asked = trial.tally, trial.libraries.asked if trial.libraries is not None else None
     print("; ".join(f"{subject} {number}" for subject, number in sorted(tally.subjects.items())))
     print("statuses: " + ", ".join(f"{number} of {status}" for status, number in sorted(tally.statuses.items())))
     if tally.not_asked:
-        print("not asked of the library: " + ", ".join(f"{number} for {reason}" for reason, number in sorted(tally.not_asked.items())))
+        print(f"not asked of the {asked}: " + ", ".join(f"{number} for {reason}" for reason, number in sorted(tally.not_asked.items())))
     speed = tally.cases / max(seconds, 0.001)
-    by_library = f", {tally.by_library} of them by the library too" if trial.libraries is not None else ""
+    by_library = f", {tally.by_library} of them by the {asked} too" if asked is not None else ""
     print(f"{tally.cases} cases, {len(tally.differences)} differences, seed {seed}, {speed:.0f} cases a second{by_library}")
 
 

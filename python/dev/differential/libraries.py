@@ -12,6 +12,7 @@ import sys
 from contextlib import AbstractContextManager, suppress
 from dataclasses import dataclass
 from multiprocessing import Pipe
+from pathlib import Path
 from types import TracebackType
 
 from differential.cases import STANDARD_INPUT, Case, Output
@@ -84,6 +85,8 @@ def question_of(case: Case) -> Question:
 class Libraries(AbstractContextManager["Libraries"]):
     """Asks a library one case after another. Where its process ends or takes too long, a new one is started for the next case."""
 
+    asked = "library"
+
     def __init__(self, path: str, seconds: float = SECONDS) -> None:
         self.path, self.seconds = path, seconds
         self.child: subprocess.Popen[bytes] | None = None
@@ -95,14 +98,17 @@ class Libraries(AbstractContextManager["Libraries"]):
     def start(self) -> None:
         """Starts the process, in which the library is loaded. In a session of its own it is not ended by Ctrl-C."""
         self.connection, theirs = Pipe()
-        command = [sys.executable, "-P", "-m", "differential.answering", self.path]
         environment = {**os.environ, "PYTHONPATH": PACKAGES}
         with theirs:
-            self.child = subprocess.Popen(command, stdin=theirs.fileno(), env=environment, start_new_session=True)
+            self.child = subprocess.Popen(self.command(), stdin=theirs.fileno(), env=environment, start_new_session=True)
         problem = self.received(max(self.seconds, SECONDS)).decode()
         if problem:
             self.end()
             raise CannotRun(problem)
+
+    def command(self) -> list[str]:
+        """What answers over its standard input."""
+        return [sys.executable, "-P", "-m", "differential.answering", self.path]
 
     def received(self, seconds: float) -> bytes:
         """The next message of the process. One that ends, or that takes too long and so is ended, sends none."""
@@ -112,13 +118,13 @@ class Libraries(AbstractContextManager["Libraries"]):
         except (EOFError, OSError):
             raise CannotRun(self.end()) from None
         self.end(kill=True)
-        raise CannotRun(f"The library took longer than {seconds:.0f} seconds.")
+        raise CannotRun(f"The {self.asked} took longer than {seconds:.0f} seconds.")
 
     def end(self, kill: bool = False) -> str:
         """Ends the process, and says in a sentence how it ended."""
         child, self.child = self.child, None
         if child is None:
-            return "The process of the library has ended."
+            return f"The process of the {self.asked} has ended."
         self.connection.close()
         try:
             status = child.wait(0 if kill else AT_THE_END)
@@ -126,7 +132,7 @@ class Libraries(AbstractContextManager["Libraries"]):
             child.kill()
             status = child.wait()
         how = f"was ended by signal {-status}" if status < 0 else f"ended with status {status}"
-        return f"The process of the library {how}."
+        return f"The process of the {self.asked} {how}."
 
     def outcome(self, case: Case) -> Outcome:
         """What the library answers to a case that it can be asked."""
@@ -148,7 +154,16 @@ class Libraries(AbstractContextManager["Libraries"]):
             return str(error)
         if answered == outcome:
             return None
-        return f"The library answers {answered.status} {shown(answered.text, outcome.text)}."
+        return f"The {self.asked} answers {answered.status} {shown(answered.text, outcome.text)}."
+
+
+class Modules(Libraries):
+    """The same for the module for browsers in a folder, which Node asks."""
+
+    asked = "module"
+
+    def command(self) -> list[str]:
+        return ["node", str(Path(__file__).with_name("answering.mjs")), self.path]
 
 
 def shown(text: bytes, other: bytes) -> str:
