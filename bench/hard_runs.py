@@ -105,9 +105,9 @@ class Terms:
     answer: int
     """How many bytes are printed."""
     cited: int
-    """The cited links, for each of which all points and orders may be looked at."""
+    """How many links are cited: a run may look at all points and orders once for each."""
     pairs: int
-    """The points, for each of which all orders may be looked at, 64 at once."""
+    """How many points there are: a run may look at all orders once for each, 64 at a time."""
 
     def units(self) -> float:
         """Their sum, times a logarithm."""

@@ -52,7 +52,7 @@ def names_of(times: int, instances: int, length: int = 0) -> list[str]:
 
 
 def net(links: Sequence[Link], instances: int, times: Sequence[str] = (), length: int = 0) -> Case:
-    """A document of times, then instances, and links between them by their numbers. It is asked for the first and the last one."""
+    """A document of times, then instances, and links between them by their numbers. Its questions are about the first and the last one."""
     names = names_of(len(times), instances, length)
     tags = [f'<TIMEX3 tid="{name}" {value}/>' for name, value in zip(names, times)]
     tags += [f'<MAKEINSTANCE eiid="{name}" eventID="e"/>' for name in names[len(times) :]]

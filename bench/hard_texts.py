@@ -182,7 +182,7 @@ FAULTY: dict[str, Maker] = {
 
 
 def as_case(make: Maker) -> Callable[[int], Case]:
-    """A case of a document alone, which is asked for one instance if it is asked."""
+    """A case of a document alone, with a question about one instance."""
     return lambda size: Case(make(size), asked=("i", "BEFORE", "i"))
 
 
