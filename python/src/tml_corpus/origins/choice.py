@@ -251,14 +251,14 @@ class Choice:
 
     def blemishes(self, origin: Origin) -> Counter[str]:
         """What is unlikely in the common stretch of an origin."""
-        return Counter(self.unlikely(self.part(origin), self.low, self.high, lambda tag: True))
+        return Counter(self.unlikely(self.part(origin), self.low, self.high, lambda first, last: True))
 
     def own_blemishes(self, origin: Origin) -> Counter[str]:
         """What is unlikely about the changed place itself; a letter of the text is in doubt, and so is a sign that it may have had."""
         key = origin.keystroke
         start = key.start - origin.start
         end = start + len(key.text)
-        found = Counter(self.unlikely(origin.stretch, origin.start, origin.end, lambda tag: tag.start <= end and tag.end >= start))
+        found = Counter(self.unlikely(origin.stretch, origin.start, origin.end, lambda first, last: first <= end and last >= start))
         del found["gap"]
         tags = list(tags_of(origin.stretch))
         struck = self.draft.text[key.start : key.end] if key.slip is Slip.STRUCK else ""
@@ -287,15 +287,18 @@ class Choice:
                     is_needed = name == "eventID" and (row.form.target, value) not in self.draft.referred
                     yield shape(was) in shapes and not is_needed
 
-    def unlikely(self, part: str, low: int, high: int, looks_at: Callable[[Tag], bool]) -> Iterator[str]:
-        """What is unlikely in a part that is there in place of a stretch: in its text, and about the tags that are looked at."""
+    def unlikely(self, part: str, low: int, high: int, looks_at: Callable[[int, int], bool]) -> Iterator[str]:
+        """What is unlikely in a part that is there in place of a stretch: in its text, and about tags and edges of tags in places that
+        are looked at."""
         path, at = self.draft.before[self.draft.within(0, low)[1]], 0
         padded = (self.draft.text[low - 1 : low] or " ") + part + (self.draft.text[high : high + 1] or " ")
         for tag in (*tags_of(part), Tag(len(part), len(part), "", "", ())):
             text = NOT_TEXT.sub("", part[at : tag.start])
             yield from self.of_text(text, path)
-            if tag.name and looks_at(tag):
-                yield from self.of_tag(tag, part, kind_of(padded[tag.start]), kind_of(padded[tag.end + 1]))
+            if tag.name and looks_at(tag.start, tag.end):
+                left = kind_of(padded[tag.start]) if looks_at(tag.start - 1, tag.start + 1) else None
+                right = kind_of(padded[tag.end + 1]) if looks_at(tag.end - 1, tag.end + 1) else None
+                yield from self.of_tag(tag, part, left, right)
             if tag.kind == "start" and path > 0 and tag.name in self.draft.names(path):
                 yield "nested"
             if tag.name:

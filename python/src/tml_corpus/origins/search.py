@@ -19,7 +19,7 @@ Check = Callable[[str], Fault | None]
 
 EDGES = "<>/"
 BLANKS = " \t\r\n\ufeff"
-NOT_TEXT = re.compile("<[!?].*?>", re.DOTALL)
+NOT_TEXT = re.compile("<!--.*?-->|<[!?].*?>", re.DOTALL)
 COMMENT = 2048
 """How far after the beginning of a comment its end may have been lost."""
 
