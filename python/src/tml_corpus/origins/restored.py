@@ -27,7 +27,7 @@ MOST_TOLD = 3
 SWALLOWED = re.compile(rb"<!--(?:[^<-]|<(?!!--)|-(?!->))*+<!--")
 """A comment in which another one begins: the end of the first one may be at fault, which may explain any fault."""
 
-WELL_FORMED = re.compile(rb"<!--.*?-->|<[^<>]*>", re.DOTALL)
+WELL_FORMED = re.compile(rb"<!--.*?-->|<(?:[^<>\"']|\"[^\"<]*\"|'[^'<]*')*>", re.DOTALL)
 
 
 @dataclass(frozen=True)
@@ -81,15 +81,18 @@ def edit_of(text: str, origin: Origin) -> Edit:
 
 
 def is_one_keystroke(document: bytes, edit: Edit) -> bool:
-    """Whether an edit changes one character or exchanges two, and leaves no part of a tag in the text around it."""
+    """Whether an edit changes one character or exchanges two, and leaves nothing of a tag in the text around it that no other text has."""
     old, new = document[edit.start : edit.end].decode("utf-8"), edit.text.decode("utf-8")
     if len(old) > 2 or len(new) > 2 or (len(old) == 2) != (len(new) == 2) or (len(old) == 2 and old != new[::-1]):
         return False
     after = applied(document, [edit])
     start = after.rfind(b"<", 0, max(after.rfind(b"<", 0, edit.start), 0))
     end = after.find(b"<", after.find(b"<", edit.start + len(edit.text)) + 1)
-    stretch = after[max(start, 0) : end if end >= 0 else len(after)]
-    return NOT_IN_TEXT.search(WELL_FORMED.sub(b"", stretch)) is None
+    start, end = max(start, 0), end if end >= 0 else len(after)
+    here, elsewhere = (
+        set(NOT_IN_TEXT.findall(WELL_FORMED.sub(b"", text))) for text in (after[start:end], after[:start] + b" " + after[end:])
+    )
+    return here <= elsewhere
 
 
 def told(document: bytes, edit: Edit, places: Places) -> str:
