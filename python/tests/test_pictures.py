@@ -7,13 +7,16 @@ import random
 import re
 import subprocess
 import unittest
+import xml.etree.ElementTree as ElementTree
 from collections import Counter
+from collections.abc import Iterator
 
-from corpus import TML, CorpusTest, by_library, needs_library, needs_matrix
-from picture_reader import Picture, Statement
+from corpus import TML, CorpusTest, by_library, needs_library, needs_matrix, text_at
+from picture_reader import SVG, Picture, Statement
 from reference.relations import holds
 from tml.statuses import BASE_RELATIONS, RELATIONS
 from tml_corpus.figure.draw import Paper, width_of
+from tml_corpus.timeline.lettering import measured
 from tml_corpus.timeline.timeline import Choices, draw_document
 
 DOCUMENTS = 200
@@ -163,6 +166,57 @@ class Stated(Pictures):
         weak, strict = closure(stated, {name + end for name in named for end in "-+"})
         self.assertEqual((truth.never_after - weak, truth.before - strict), (set(), set()), f"document {number}, {form}: {content}")
         return stated
+
+
+@needs_matrix
+@needs_library
+class Read(Pictures):
+    """That pictures can be read."""
+
+    def contents(self) -> Iterator[str]:
+        """Documents of several kinds and sizes."""
+        yield from map(random_document, range(0, DOCUMENTS, 10))
+        yield from (text_at("samples", name) for name in ("ferry.xml", "rates.xml", "bridge.xml"))
+        for count in (34, 60):
+            tags = "".join(
+                f'<EVENT eid="e{n}" class="STATE">word{n}</EVENT><MAKEINSTANCE eiid="i{n}" eventID="e{n}"/>' for n in range(count)
+            )
+            ends = [(n, n + 1 if n % 3 else (n + 2) % count) for n in range(count - 2)]
+            yield f"<TimeML>{tags}" + "".join(
+                f'<TLINK eventInstanceID="i{one}" relatedToEventInstance="i{other}" relType="{"BEFORE" if one % 5 else "INCLUDES"}"/>'
+                for one, other in ends
+            ) + "</TimeML>"
+
+    def test_no_text_is_cut_or_over_another(self) -> None:
+        for content, form in itertools.product(self.contents(), self.FORMS):
+            picture = Picture.read(self.drawn(content, form))
+            boxes = []
+            for x, y, anchor, size, text in picture.texts:
+                self.assertEqual(anchor, "start")
+                boxes.append((x, x + measured(text, size), y - 0.72 * size, y + 0.15 * size, text))
+                self.assertTrue(
+                    0 <= x and boxes[-1][1] <= picture.width + 0.1 and 0 <= boxes[-1][2] and boxes[-1][3] <= picture.height, text
+                )
+                self.assertNotIn("\u2026", text)
+            for one, other in itertools.combinations(boxes, 2):
+                is_apart = one[1] <= other[0] or other[1] <= one[0] or one[3] <= other[2] or other[3] <= one[2]
+                self.assertTrue(is_apart, f"{one[4]} and {other[4]}, {form}: {content}")
+
+    def test_bars_of_different_intervals_do_not_meet(self) -> None:
+        for content, form in itertools.product(self.contents(), self.FORMS):
+            for one, other in itertools.combinations(Picture.read(self.drawn(content, form)).whole_bars(), 2):
+                is_apart = min(one.right, other.right) <= max(one.left, other.left) + 0.02 or min(one.bottom, other.bottom) <= max(
+                    one.top, other.top
+                )
+                self.assertTrue(is_apart, (one, other))
+
+    def test_those_who_do_not_see_are_told(self) -> None:
+        root = ElementTree.fromstring(self.drawn(text_at("samples", "ferry.xml"), "84mm").encode())
+        said = [next(root.iter(SVG + name)).text or "" for name in ("title", "desc")]
+        self.assertEqual((root.get("role"), said[0]), ("img", "Timeline of d.xml"))
+        self.assertIn("left (ei1): starts after the start of 9 March 1998 (t1); ends before the end of 9 March 1998 (t1).", said[1])
+        self.assertIn("Also, the end of warned (ei2) is before the start of strike (ei3).", said[1])
+        self.assertIn("Nothing says when: planned (ei8), raised (ei9).", said[1])
 
 
 if __name__ == "__main__":
