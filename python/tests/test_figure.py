@@ -15,6 +15,7 @@ from unittest import mock
 from browser import needs_browser
 from corpus import COMPANION, TML, TOP, CorpusTest, document, match_in, needs_matrix, needs_score, text_at
 from looking import contrast, luminance
+from picture_reader import Picture
 from processes import WITH_PACKAGES, with_own_bytecode
 from test_timeline_page import event, link, mended
 from tml_corpus.asking.program import CannotRun
@@ -73,11 +74,9 @@ class FigureTest(CorpusTest):
         texts = ElementTree.fromstring(picture.encode()).iter(SVG + "text")
         return [one.text or "" for one in texts if one.get("fill") != "none"]
 
-    def boxes(self, picture: str, height: str = "10") -> list[tuple[float, float, float]]:
-        """The left and right edges and the tops of the bars and dates."""
-        rects = ElementTree.fromstring(picture.encode()).iter(SVG + "rect")
-        found = [{key: float(one.get(key, "0")) for key in ("x", "y", "width")} for one in rects if one.get("height") == height]
-        return [(one["x"], one["x"] + one["width"], one["y"]) for one in found]
+    def boxes(self, picture: str) -> list[tuple[float, float, float]]:
+        """The left and right edges and the tops of the bars and dates, as far as they reach."""
+        return [(bar.left, bar.right, bar.top) for bar in Picture.read(picture).whole_bars()]
 
 
 class Timelines(FigureTest):
@@ -98,27 +97,22 @@ class Timelines(FigureTest):
         words = "warned failed walked closed called waited agreed turned reopened said".split()
         self.assertLessEqual({*words, "9 March 1998", "11 March"}, {*shown})
         self.assertTrue({"12 March", "12 Mar"} & {*shown})
-        lines = re.findall(r'<path d="M([\d.]+) ([\d.]+)L([\d.]+) ([\d.]+)" fill="none" stroke="#000000" stroke-width="0.6"/>', picture)
-        breaks = [x for x, y, to_x, to_y in lines if x != to_x and y != to_y]
+        breaks = re.findall(r'<path d="M([\d.]+) [\d.]+L[\d. ]+" fill="none" class="break"', picture)
         self.assertEqual(len(breaks), 2, "two strokes of one break, between the ninth and the eleventh")
         dates = sorted(self.boxes(picture))
         tops = min(top for _, _, top in dates)
         nine, eleven, _ = (one for one in dates if one[2] == tops)
         self.assertTrue(all(nine[1] - 3 < float(x) < eleven[0] + 3 for x in breaks))
 
-    def test_only_links_that_do_not_follow_are_drawn(self) -> None:
-        content = mended().replace("</TimeML>", link(0, "BEFORE", 0).replace("i0", "ei2", 1).replace("i0", "ei10") + "</TimeML>")
-        picture = self.made(content)
-        reduced = subprocess.run([TML, "reduce", self.path("d.xml")], capture_output=True, text=True, check=True).stdout.splitlines()[1:]
-        relations = [line.split(" ")[3] for line in reduced]
-        before = sum(one in ("BEFORE", "AFTER", "IBEFORE", "IAFTER") for one in relations)
-        self.assertEqual(len(relations), 13, "the fourteenth follows from the others")
-        self.assertEqual(len(re.findall(r' d="M[\d. -]+C', picture)), before)
-        self.assertEqual(picture.count("<circle") - 1, len(relations) - before, "a dot for each other link, and one in the legend")
+    def test_lines_say_what_bars_do_not(self) -> None:
+        picture = Picture.read(self.made(mended()))
+        stated = {(one.first, one.second) for one in picture.statements() if one.kind == "line before"}
+        self.assertEqual(stated, {("ei2+", "ei1-"), ("ei7+", "ei8-"), ("ei5-", "ei6-")})
 
     def test_chosen_rows(self) -> None:
         picture = self.made(mended(), "d.svg", "--rows", "ei4,ei5,t1")
-        self.assertEqual(self.texts(picture)[:3], ["9 March 1998", "closed", "waited"])
+        self.assertLessEqual({"9 March 1998", "closed", "waited"}, set(self.texts(picture)))
+        self.assertEqual({bar.name for bar in Picture.read(picture).bars}, {"ei4", "ei5", "t1"})
         self.assertNotIn("walked", picture)
         self.write("d.xml", mended())
         for name in ("d.svg", "d.html"):
@@ -137,7 +131,7 @@ class Timelines(FigureTest):
         self.write("d.xml", mended())
         for words in ((), ("--bare",)):
             status, lines, error = self.run_it("timeline", "d.xml", "-o", "-", *words)
-            self.assertEqual((status, error), (0, "d.xml: drawn in -: 13 intervals, 13 links, ranks 0 to 16\n"))
+            self.assertEqual((status, error), (0, "d.xml: drawn in -: 13 intervals, 13 links, an axis of 13 places\n"))
             ElementTree.fromstring("\n".join(lines).encode())
 
     def test_documents_of_all_kinds(self) -> None:
@@ -287,9 +281,14 @@ class Parts(unittest.TestCase):
         self.assertEqual(packed([(0, 10), (5, 8), (8, 12), (10, 11)]), [0, 1, 1, 0])
         self.assertEqual(packed([]), [])
 
+        self.assertEqual(packed([(0, 1), (2, 3), (4, 5)], [[], [0], [0, 1]]), [0, 1, 2])
+
     def test_places(self) -> None:
-        self.assertEqual(spread([(0, 2, 30.0)], 4, 5.0, 1.0), [0.0, 5.0, 30.0, 35.0])
-        self.assertEqual(spread([(0, 2, 30.0)], 4, 5.0, 0.0), [0.0, 5.0, 10.0, 15.0])
+        self.assertEqual(spread([], 4, 30.0), [0.0, 10.0, 20.0, 30.0])
+        self.assertEqual([round(one, 3) for one in spread([(0, 1, 20.0)], 4, 30.0)], [0.0, 20.0, 25.0, 30.0])
+        self.assertEqual([round(one, 3) for one in spread([(0, 2, 24.0)], 4, 30.0)], [0.0, 12.0, 24.0, 30.0])
+        self.assertEqual((spread([], 1, 30.0), spread([], 0, 30.0)), ([0.0], []))
+        self.assertLessEqual(spread([(0, 1, 90.0), (1, 2, 90.0)], 3, 30.0)[-1], 30.001)
 
 
 class Colours(unittest.TestCase):

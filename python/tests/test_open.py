@@ -12,7 +12,7 @@ from processes import PATIENCE, interrupt, until
 from reference.nets import Link, Net
 from reference.possible import possible_by_closure
 from reference.timelines import least_raised, orders_that_fit
-from test_leeway import lines_of
+from test_known import lines_of
 from test_reference import random_net
 from test_timeline import event, link
 from tml.matrices import read_matrix

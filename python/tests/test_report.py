@@ -284,7 +284,7 @@ class InABrowser(ReportTest):
             word = browser.value("document.querySelector('#bar6').dataset.word")
             browser.click("#bar6")
             self.assertEqual(browser.value(marked), f"bar6 {word}")
-            self.assertIn("waited (ei5): event, ranks 8 to 11", browser.value("document.querySelector('#panel').innerText"))
+            self.assertIn("waited (ei5): event", browser.value("document.querySelector('#panel').innerText"))
             self.assertEqual(browser.value("document.querySelectorAll('.arcs text').length"), 3)
             browser.click("#bar6")
             other = browser.value("document.querySelector('a.mark').dataset.bars")

@@ -10,7 +10,8 @@ import unittest
 import xml.etree.ElementTree as ElementTree
 from typing import Any
 
-from corpus import EVENT, INSTANCE, TML, TOP, CorpusTest, document, match_in, needed, needs_matrix, text_at
+from corpus import EVENT, INSTANCE, TML, TOP, CorpusTest, document, needed, needs_matrix, text_at
+from picture_reader import Picture
 from tml.statuses import INTERVAL_LIMIT
 
 Attributes = list[tuple[str, str | None]]
@@ -57,30 +58,21 @@ class TimelineTest(CorpusTest):
         self.write("d.xml", content)
         status, lines, error = self.run_it("timeline", "d.xml", "-o", name)
         self.assertEqual((status, error), (0, ""), lines)
-        self.assertRegex(lines[0], rf"^d\.xml: drawn in {re.escape(name)}: \d+ intervals?, \d+ links?, ranks 0 to \d+$")
+        self.assertRegex(lines[0], rf"^d\.xml: drawn in {re.escape(name)}: \d+ intervals?, \d+ links?, an axis of \d+ places?$")
         with open(self.path(name), encoding="utf-8", newline="") as file:
             return file.read()
 
-    def rows(self, picture: str) -> list[tuple[str, str, float | None, float | None]]:
-        """Of each row its kind, the text of its label, and the ends of its bar, where it has one, in the order of the file."""
-        root = ElementTree.fromstring(picture.encode())
-        rows = [group for group in root.iter(SVG + "g") if group.get("class", "").startswith("row ")]
-        found: list[tuple[str, str, float | None, float | None]] = []
-        for group in rows:
-            kind, label = group.attrib["class"].split(" ")[1], "".join(needed(group.find(SVG + "text")).itertext())
-            if "untied" in group.attrib["class"]:
-                found.append((kind, label, None, None))
-                continue
-            [bar] = [rect for rect in group.iter(SVG + "rect") if rect.get("class") == "bar"]
-            x, width = float(bar.attrib["x"]), float(bar.attrib["width"])
-            found.append((kind, label, x, x + width))
-        heights = [float(needed(group.find(SVG + "text")).attrib["y"]) for group in rows]
-        self.assertEqual(heights, sorted(set(heights)))
-        return found
+    def rows(self, picture: str) -> dict[str, str]:
+        """The kind of each interval that has a bar, in the order of the file."""
+        return {bar.name: bar.classes[1] for bar in Picture.read(picture).bars}
+
+    def texts(self, picture: str) -> list[str]:
+        """The texts of a picture."""
+        return [text for *_, text in Picture.read(picture).texts]
 
     def titles(self, picture: str) -> list[str]:
-        """What is shown of each row."""
-        return [title.text or "" for title in ElementTree.fromstring(picture.encode()).iter(SVG + "title")]
+        """What is shown of each bar, or of each row of a page."""
+        return [title.text or "" for title in ElementTree.fromstring(picture.encode()).iterfind(f".//*/{SVG}title")]
 
     def shown(self, content: str, *words: str) -> Any:
         """What the panel of a page has after something is done to its rows."""
@@ -107,26 +99,13 @@ class Rows(TimelineTest):
         return "".join(line.replace("DURING", "AFTER") if 'lid="l6"' in line else line for line in lines)
 
     def test_the_mended_sample(self) -> None:
-        rows = self.rows(self.drawn(self.mended()))
-        names = "Monday (t1),warned (ei2),failed (ei1),walked (ei3),closed (ei4),called (ei7),waited (ei5),agreed (ei8),"
-        names += "Wednesday (t2),turned (ei6),reopened (ei9),Thursday (t0),said (ei10)"
-        self.assertEqual(",".join(text for _, text, _, _ in rows), names)
-        self.assertEqual([kind == "exact" for kind, _, _, _ in rows], ["(t" in text for _, text, _, _ in rows])
-        starts = [needed(x) for _, _, x, _ in rows]
-        self.assertEqual(starts, sorted(starts))
-
-    def test_ends_are_those_of_the_ranks(self) -> None:
-        content = self.mended()
-        rows = {match_in(r"\((.*)\)$", text)[1]: (needed(x), needed(right)) for _, text, x, right in self.rows(self.drawn(content))}
-        checked = subprocess.run([TML, "check", "d.xml"], cwd=self.folder, stdout=subprocess.PIPE, check=True).stdout.decode()
-        solved = subprocess.run([TML, "solve", "d.xml"], cwd=self.folder, stdout=subprocess.PIPE, check=True).stdout.decode()
-        ranks = [tuple(map(int, pair)) for pair in re.findall(r"^at (\d+) (\d+)$", solved, re.MULTILINE)]
-        intervals = re.findall(r"^interval \d+ (\S+)$", checked, re.MULTILINE)
-        self.assertEqual(len(rows), len(intervals))
-        places = {rank: place for name, pair in zip(intervals, ranks, strict=True) for rank, place in zip(pair, rows[name], strict=True)}
-        step = places[1] - places[0]
-        for name, (start, finish) in zip(intervals, ranks, strict=True):
-            self.assertEqual(rows[name], (places[0] + start * step, places[0] + finish * step), name)
+        picture = self.drawn(self.mended())
+        rows = self.rows(picture)
+        self.assertEqual({name for name, kind in rows.items() if kind == "exact"}, {"t0", "t1", "t2"})
+        self.assertEqual({name for name, kind in rows.items() if kind == "event"}, {f"ei{number}" for number in range(1, 11)})
+        axis = [" ".join(sorted(points)) for _, points in Picture.read(picture).places]
+        names = "t1-,ei3-,ei3+,ei4-,ei4+,t1+,t2-,ei5+ ei9-,ei9+,t0- t2+,ei10-,ei10+,t0+"
+        self.assertEqual(",".join(axis), names)
 
     def test_the_picture_of_the_sample_is_that_of_the_command(self) -> None:
         self.write("mended.xml", self.mended())
@@ -134,22 +113,20 @@ class Rows(TimelineTest):
         with open(self.path("port.svg"), "rb") as made, open(os.path.join(TOP, "samples", "port.svg"), "rb") as kept:
             content = kept.read()
             self.assertEqual(made.read(), content)
-        self.assertLess(len(content), 20_000)
+        self.assertLess(len(content), 30_000)
 
     def test_links_are_told_in_the_words_of_the_text(self) -> None:
-        printed = self.titles(self.drawn(self.mended()))[6].split("\n")
+        [printed] = {title for title in self.titles(self.drawn(self.mended())) if title.startswith("waited (ei5)")}
         links = ["waited AFTER closed (l6: ei5 AFTER ei4)", "turned IS_INCLUDED waited (l7: ei6 IS_INCLUDED ei5)"]
-        self.assertEqual(printed[:2], ["waited (ei5): event, ranks 8 to 11", "Three ships waited while it was closed, and"])
-        self.assertEqual([line.split(" ")[0] for line in printed[2:4]], ["start", "end"])
-        self.assertEqual(printed[4:], [*links, "waited IBEFORE reopened (l12: ei5 IBEFORE ei9)"])
+        ends = ["starts after the end of closed (ei4) and before the start of reopened (ei9)", "ends at the start of reopened (ei9)"]
+        ends.append("the start of waited (ei5) is before the start of turned (ei6)")
+        said = ["waited (ei5): event", "Three ships waited while it was closed, and", *ends, *links]
+        self.assertEqual(printed.split("\n"), [*said, "waited IBEFORE reopened (l12: ei5 IBEFORE ei9)"])
 
     def test_intervals_that_overlap(self) -> None:
         times = '<TIMEX3 tid="a" type="SET"/>\n<TIMEX3 tid="b" type="SET"/>\n'
         picture = self.drawn(document(times + '<TLINK timeID="b" relatedToTime="a" relType="OVERLAPPED_BY"/>'))
-        first, second = self.rows(picture)
-        self.assertEqual((first[1], second[1]), ("a", "b"))
-        ends = [needed(end) for end in (first[2], second[2], first[3], second[3])]
-        self.assertEqual(ends, sorted(set(ends)))
+        self.assertEqual([points for _, points in Picture.read(picture).places], [["a-"], ["b-"], ["a+"], ["b+"]])
         self.assertIn("b OVERLAPPED_BY a (link 0: b OVERLAPPED_BY a)", self.titles(picture)[0])
 
     def test_kinds_and_dates(self) -> None:
@@ -168,17 +145,22 @@ class Rows(TimelineTest):
                 "".join(f'<TIMEX3 tid="{name}" type="{kind}" value="{value}"/>\n' for name, kind, value, _, _ in times) + EVENT + INSTANCE
             )
         )
-        kinds = {text: kind for kind, text, _, _ in self.rows(picture)}
-        self.assertEqual(kinds, {"x (i1)": "event", **{f"{value} ({name})": kind for name, _, value, kind, _ in times}})
-        shown = [text.text for text in ElementTree.fromstring(picture.encode()).iter(SVG + "text")]
-        for *_, civil in times:
-            self.assertIn(civil, shown)
+        kinds = self.rows(picture)
+        self.assertEqual(kinds, {name: kind for name, _, _, kind, _ in times if kind != "free"})
+        shown = self.texts(picture)
+        for _, _, _, kind, civil in times:
+            self.assertEqual(civil in shown or re.sub("([A-Z][a-z][a-z])[a-z]+", r"\1", civil) in shown, kind == "exact", civil)
         self.assertIn("1998-01-08T00:00:00 to 1998-01-09T00:00:00", picture)
+        self.assertIn("P3D (d)", shown)
 
-    def test_what_ranks_mean_is_said(self) -> None:
-        root = ElementTree.fromstring(self.drawn(document(event(1))).encode())
-        said = " ".join(text.text for text in root.iter(SVG + "text") if text.text)
-        for words in ("ranks, which have no lengths", "as early as the links and dates allow", "at the same time as far as is known"):
+    def test_what_a_picture_means_is_said(self) -> None:
+        said = " ".join(self.texts(self.drawn(document(event(1) + event(2) + event(3) + link(1, "BEFORE", 2) + link(1, "BEFORE", 3)))))
+        for words in (
+            "Each is before the next one to the right",
+            "full: it lasts here in any case",
+            "hollow: it may last here",
+            "open: nothing",
+        ):
             self.assertIn(words, said)
 
     def test_numbers_of_intervals(self) -> None:
@@ -186,11 +168,11 @@ class Rows(TimelineTest):
             with self.subTest(count):
                 events = "".join(event(number) for number in range(count))
                 picture = self.drawn(document(events + "".join(link(number, "AFTER", number - 1) for number in range(1, count))))
-                self.assertEqual([text for _, text, _, _ in self.rows(picture)], [f"x (i{number})" for number in range(count)])
+                listed = Picture.read(picture).listed
+                self.assertEqual([*self.rows(picture), *listed], [f"i{number}" for number in range(count)])
                 self.assertEqual("There is no interval" in picture, count == 0)
-                root = ElementTree.fromstring(picture.encode())
-                width = float(root.attrib["width"])
-                self.assertTrue(all(right <= width for _, _, _, right in self.rows(picture) if right is not None))
+                seen = Picture.read(picture)
+                self.assertTrue(all(0 <= bar.left <= bar.right <= seen.width for bar in seen.bars))
 
 
 class Strangers(TimelineTest):
@@ -203,12 +185,12 @@ class Strangers(TimelineTest):
 
     def test_texts_are_escaped(self) -> None:
         picture = self.drawn(self.content())
-        texts = [text for _, text, _, _ in self.rows(picture)]
-        made = [*self.TEXTS[:5], "\ufffd", "\ufffdy"]
-        self.assertEqual(texts, [*(f"{text} (i{number})" for number, text in enumerate(made)), "i7"])
+        made = [*self.TEXTS[:4], "\ufffd", "\ufffdy", "i7"]
+        self.assertLessEqual(set(made), set(self.texts(picture)))
+        self.assertTrue(any(text.startswith("</title></svg><script>") for text in self.texts(picture)))
         told = self.titles(picture)[0].split("\n")
-        self.assertEqual(told[:2], ["<b>&amp; (i0): event, ranks 0 to 1", "<b>&amp; \"q\" 'x' ]]> 日本語 Straße"])
-        self.assertTrue(told[4].startswith("<b>&amp; BEFORE \"q\" 'x' ]]> (link 0: "))
+        self.assertEqual(told[:2], ["<b>&amp; (i0): event", "<b>&amp; \"q\" 'x' ]]> 日本語 Straße"])
+        self.assertTrue(told[3].startswith("<b>&amp; BEFORE \"q\" 'x' ]]> (link 0: "))
 
     @needs_matrix
     def test_pages_parse_and_load_nothing(self) -> None:
@@ -235,9 +217,8 @@ class Strangers(TimelineTest):
     def test_long_texts_are_cut(self) -> None:
         for text in ("word " * 50, "W" * 300, "日" * 300, "e\u0301" * 300):
             with self.subTest(text[:9]):
-                picture = self.drawn(document(event(1, text) + event(2)))
-                label = next(label for _, label, _, _ in self.rows(picture) if "(i1)" in label)
-                self.assertRegex(label, r"^.{10,80}…\s\(i1\)$")
+                picture = self.drawn(document(event(1, text) + event(2) + link(1, "BEFORE", 2)))
+                self.assertEqual(len([label for label in self.texts(picture) if re.fullmatch(r".{10,160}(…|\.\.\.)", label)]), 1)
                 self.assertIn(" ".join(text.split())[:77] + "... (i1)", self.titles(picture)[0])
 
     def test_names_of_files(self) -> None:
@@ -245,7 +226,7 @@ class Strangers(TimelineTest):
         self.write(name, document(event(1)))
         status, lines, _ = self.run_it("timeline", name, "-o", "d.svg")
         self.assertEqual((status, lines[0].split(": ")[0]), (0, 'a<&">é\\xe9\\x0a.xml'))
-        heading = needed(ElementTree.parse(self.path("d.svg")).getroot().find(SVG + "text")).text
+        heading = needed(ElementTree.parse(self.path("d.svg")).getroot().find(SVG + "title")).text
         self.assertEqual(heading, 'Timeline of a<&">é\ufffd .xml')
 
 
@@ -257,11 +238,12 @@ class Open(TimelineTest):
 
     def test_the_row_that_is_pointed_at(self) -> None:
         [first], [second] = self.shown(self.DURING, "focus:0"), self.shown(self.DURING, "pointermove:1")
-        ends = ["start at rank 0, elsewhere up to 3", "end at rank 1, elsewhere up to 4"]
+        ends = ["starts not after the start of a<b (i1)", "ends not before the end of a<b (i1)"]
         said = "a<b DURING & (link 0: i1 DURING i2)"
-        self.assertEqual(first[:5], ["a<b (i1): event, ranks 0 to 1", "a<b & x", *ends, said])
-        self.assertEqual(first[5:7], ["What it can be to the others:", "IS_INCLUDED or SIMULTANEOUS or BEGINS or ENDS: & (i2)"])
-        self.assertEqual(first[7:], ["any relation: x (i3)"])
+        self.assertEqual(first[:3], ["a<b (i1): event", "a<b & x", said])
+        self.assertEqual(second[2:5], [*ends, said])
+        self.assertEqual(first[3:5], ["What it can be to the others:", "IS_INCLUDED or SIMULTANEOUS or BEGINS or ENDS: & (i2)"])
+        self.assertEqual(first[5:], ["any relation: x (i3)"])
         self.assertEqual(second[6], "INCLUDES or SIMULTANEOUS or BEGUN_BY or ENDED_BY: a<b (i1)")
 
     def test_a_row_is_kept_by_a_click_and_by_a_key(self) -> None:

@@ -1,18 +1,13 @@
-"""What `tml-corpus timeline` shows of what is known: spans of ends, intervals that nothing ties, words around events, what is asserted."""
+"""What `tml-corpus timeline` shows beside bars: intervals that nothing ties, words around events, and what is asserted."""
 
-import itertools
-import os
 import unittest
-import xml.etree.ElementTree as ElementTree
 
 import test_timeline
-from corpus import TML, document, match_in, needed, needs_matrix, needs_seconds
-from reference.nets import fits
-from test_leeway import fitting_nets
-from test_timeline import SVG, event, link
+from corpus import document, needs_matrix, needs_seconds
+from picture_reader import Picture
+from test_timeline import event, link
 from tml_corpus.document.around import Around, words_after, words_before
 from tml_corpus.document.date_words import stretch
-from tml_corpus.timeline.greatest import greatest_timeline
 
 
 class Dates(unittest.TestCase):
@@ -57,77 +52,31 @@ class Words(unittest.TestCase):
         self.assertEqual(whole.fitted("x", 1, 12).sentence("x"), "\u2026 x \u2026")
 
 
-class Greatest(unittest.TestCase):
-    """Greatest timelines against all timelines of small nets of the reference."""
-
-    def test_they_fit_and_none_is_greater(self) -> None:
-        for net, timelines, matrix in fitting_nets(300):
-            least = [min(ranks) for ranks in zip(*timelines, strict=True)]
-            highest = max(least)
-            found = list(itertools.chain(*greatest_timeline(matrix, list(zip(least[::2], least[1::2], strict=True)))))
-            self.assertTrue(fits(net, tuple(found), range(len(net.links))))
-            if len(found) <= 4:
-                tried = itertools.product(range(highest + 1), repeat=len(found))
-                fitting = [ranks for ranks in tried if fits(net, ranks, range(len(net.links)))]
-                self.assertEqual(found, [max(ranks) for ranks in zip(*fitting, strict=True)])
-
-
 @needs_matrix
 class Known(test_timeline.TimelineTest):
     """What is drawn of it."""
 
-    @staticmethod
-    def groups(picture: str) -> dict[str, ElementTree.Element]:
-        """The rows by the names of their intervals."""
-        root = ElementTree.fromstring(picture.encode())
-        groups = [group for group in root.iter(SVG + "g") if group.get("class", "").startswith("row ")]
-        return {match_in(r"\((.*)\)$", "".join(needed(group.find(SVG + "text")).itertext()))[1]: group for group in groups}
-
     def test_what_nothing_ties_stands_apart(self) -> None:
         times = '<TIMEX3 tid="a" type="SET" value="P1D"/><TIMEX3 tid="b" type="DATE" value="1998"/>'
         picture = self.drawn(document(event(3) + event(1) + event(2) + event(4) + times + link(1, "BEFORE", 2) + link(4, "IDENTITY", 4)))
-        groups = self.groups(picture)
-        self.assertEqual(list(groups), ["i1", "b", "i2", "i3", "i4", "a"])
-        self.assertEqual([name for name, group in groups.items() if "untied" in group.attrib["class"]], ["i3", "i4", "a"])
-        self.assertEqual(picture.count("Order not known: no link or date ties these to anything."), 1)
-        self.assertIn("x (i3): event, order not known, since no link or date ties it to anything", self.titles(picture)[3])
-        self.assertFalse([rect for rect in groups["i3"].iter(SVG + "rect") if rect.get("class") == "bar"])
-        self.assertNotIn("Order not known", self.drawn(document(event(1) + event(2) + link(1, "BEFORE", 2))))
-
-    def test_spans_are_drawn_and_told(self) -> None:
-        links = link(1, "BEFORE", 2) + link(2, "BEFORE", 3) + link(1, "BEFORE", 4) + link(5, "INCLUDES", 2)
-        picture = self.drawn(document("".join(map(event, range(1, 6))) + links))
-        groups = self.groups(picture)
-        counts = {name: sum(path.get("class") == "span" for path in group.iter(SVG + "path")) for name, group in groups.items()}
-        self.assertEqual(counts, {"i1": 0, "i2": 0, "i3": 0, "i4": 1, "i5": 1})
-        told = next(title for title in self.titles(picture) if "(i4)" in title.split("\n")[0])
-        self.assertIn("\nstart at rank 2, up to 4 within these ranks, elsewhere up to ", told)
-        cores = [rect for rect in groups["i5"].iter(SVG + "rect") if rect.get("class") == "bar core"]
-        self.assertEqual(len(cores), 1)
-
-    def test_greatest_timelines_are_verified(self) -> None:
-        """The second thing that is verified is the greatest timeline; what is refused is not drawn."""
-        self.write("d.xml", document(event(1) + event(2) + event(3) + link(1, "BEFORE", 2)))
-        for refused, said in [("", ""), ("echo evidence line 1; exit 7", "evidence line 1")]:
-            second = f'if [ -e asked ]; then cat "$3" > given; {refused or f"exec {TML} verify - given"}; fi; touch asked'
-            fake = self.fake(f'if [ $1 = verify ]; then {second}; fi\nexec {TML} "$@"')
-            status, lines, _ = self.run_it("timeline", "d.xml", "-o", "d.svg", tml=fake)
-            with open(self.path("given"), encoding="utf-8") as file:
-                self.assertEqual(file.read(), "tml-evidence 2\nclaims 1\ntimeline 3\nat 0 1\nat 2 3\nat 2 3\nend\n")
-            if refused:
-                problem = f"tml verify did not accept the greatest timeline that was counted from tml matrix: {said}"
-                self.assertEqual((status, lines), (2, [f"d.xml: not judged: {problem}"]))
-            else:
-                self.assertEqual(status, 0, lines)
-            os.remove(self.path("asked"))
+        seen = Picture.read(picture)
+        self.assertEqual({bar.name for bar in seen.bars}, {"i1", "i2"})
+        self.assertEqual(list(seen.listed.values()), ["x (i3)", "x (i4)", "P1D (a)", "1998 (b)"])
+        self.assertEqual(picture.count("Nothing says when:"), 2, "in the picture, and in its description")
+        self.assertNotIn("Nothing says when", self.drawn(document(event(1) + event(2) + link(1, "BEFORE", 2))))
+        page = self.drawn(document(event(1) + event(2) + link(1, "BEFORE", 1 + 1) + event(3)), "d.html")
+        self.assertEqual(page.count("Nothing says when: no link or date gives these a bound on the axis."), 1)
+        self.assertIn("x (i3): event, nothing says when", page)
 
     def test_rows_in_the_order_of_the_text(self) -> None:
         content = document("".join(event(number) for number in (3, 1, 4, 2)) + link(1, "BEFORE", 2) + link(2, "BEFORE", 3))
         self.write("d.xml", content)
-        self.assertEqual(list(self.groups(self.drawn(content))), ["i1", "i2", "i3", "i4"])
+        self.assertEqual([bar.name for bar in Picture.read(self.drawn(content)).bars], ["i1", "i2", "i3"])
         self.assertEqual(self.run_it("timeline", "--text-order", "d.xml", "-o", "d.svg")[0], 0)
         with open(self.path("d.svg"), encoding="utf-8") as file:
-            self.assertEqual(list(self.groups(file.read())), ["i3", "i1", "i2", "i4"])
+            bars = Picture.read(file.read()).bars
+        self.assertEqual([bar.name for bar in bars], ["i3", "i1", "i2"])
+        self.assertEqual(len({bar.top for bar in bars}), 3, "a lane for each")
 
     def test_links_search_and_order_of_a_page(self) -> None:
         content = document(event(3, "fell") + ". " + event(1, "rose") + event(4) + event(2) + link(1, "BEFORE", 2) + link(2, "BEFORE", 3))
@@ -155,9 +104,9 @@ class Asserted(test_timeline.TimelineTest):
             (relation, True) for relation in ("EVIDENTIAL", "FACTIVE", "INTENSIONAL")
         ]:
             picture = self.drawn(self.content(relation))
-            groups = Known.groups(picture)
-            found = [name for name, group in groups.items() if "unasserted" in group.attrib["class"].split(" ")]
+            found = [bar.name for bar in Picture.read(picture).bars if "unasserted" in bar.classes]
             self.assertEqual(found, ["i9"] if is_asserted else ["i9", "i2"], relation)
+            self.assertEqual(picture.count('font-style="italic"'), 2 * len(found), "with halos")
         titles = "\n".join(self.titles(self.drawn(self.content())))
         self.assertIn("not asserted: MODAL of said (i1)", titles)
         self.assertIn("not asserted: negative polarity", titles)
@@ -165,10 +114,10 @@ class Asserted(test_timeline.TimelineTest):
     def test_a_copy_without_them_is_asked(self) -> None:
         self.write("d.xml", self.content())
         status, lines, error = self.run_it("timeline", "--asserted", "d.xml", "-o", "d.svg")
-        said = "d.xml: drawn in d.svg: 2 intervals, 1 link, ranks 0 to 3; 2 events not asserted and 3 links left out"
+        said = "d.xml: drawn in d.svg: 2 intervals, 1 link, an axis of 4 places; 2 events not asserted and 3 links left out"
         self.assertEqual((status, error, lines), (0, "", [said]))
         with open(self.path("d.svg"), encoding="utf-8") as file:
-            self.assertEqual(list(Known.groups(file.read())), ["i1", "i3"])
+            self.assertEqual([bar.name for bar in Picture.read(file.read()).bars], ["i1", "i3"])
 
     def test_links_that_clash_only_with_them(self) -> None:
         clashing = self.content().replace("</TimeML>", link(3, "BEFORE", 2) + "</TimeML>")

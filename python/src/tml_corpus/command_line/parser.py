@@ -90,7 +90,7 @@ def encoding_of(name: str) -> str:
 def timeline_words(words: Parser) -> None:
     """The words of `timeline`, which is about one document."""
     words.description = (
-        "Draws the least timeline of a document, once tml verify has accepted it. If links clash it names them, and if the document "
+        "Draws what is known of the order of the intervals of a document. If links clash it names them, and if the document "
         "has a fault it names that; the status is then 1, and no file is written."
     )
     words.formatter_class = RawFormatter
@@ -105,7 +105,7 @@ def timeline_words(words: Parser) -> None:
     words.add_argument("--seconds", action="store_true", help="draw a placing in whole seconds, true to scale, as tml seconds has it")
     words.add_argument("--asserted", action="store_true", help="leave out the events that the document does not assert, and their links")
     words.add_argument("--text-order", action="store_true", help="order the rows as in the text")
-    bare = "draw a small picture for a paper: bars in lanes, and the links that do not follow from others; of links that clash a ring"
+    bare = "draw a small picture for a paper; of links that clash a ring"
     words.add_argument("--bare", action="store_true", help=bare)
     words.add_argument("--width", type=figure_width, metavar="WIDTH", help="the width of such a picture, as 84mm or 3.3in (84mm)")
     words.add_argument("--rows", metavar="NAMES", help="draw these intervals alone, as ei1,ei2,t1")
@@ -307,7 +307,7 @@ COMMANDS: Mapping[str, tuple[str, Callable[[Parser], None]]] = {
     "open": ("list undecided pairs, most informative first", open_words),
     "agree": ("say how far the links of two annotations of the same texts agree", agree_words),
     "report": ("write pages about all documents, to be opened in a browser", report_words),
-    "timeline": ("draw the least timeline of a document", timeline_words),
+    "timeline": ("draw what is known of the order of a document", timeline_words),
     "matrix": ("print the relations that are possible between the intervals of a document", matrix_words),
     "seconds": ("print a placing of a document in whole seconds", seconds_words),
     "serve": ("serve an editor by the Language Server Protocol", serve_words),

@@ -9,7 +9,6 @@ from dataclasses import dataclass
 from ..asking.program import CannotRun, Program
 from ..clash.report import PlacedClash
 from ..clash.walk_words import steps_in_words
-from ..document.reduced import ask_reduced
 from ..document.words import Wording
 from ..timeline.rows import Timeline
 from . import of_clash, of_timeline
@@ -36,6 +35,13 @@ def as_svg(figure: Figure) -> bytes:
     return svg(figure).encode("utf-8")
 
 
+def as_screen(figure: Figure) -> bytes:
+    """SVG for a screen."""
+    from .svg_form import on_screen
+
+    return on_screen(figure).encode("utf-8")
+
+
 def as_pdf(figure: Figure) -> bytes:
     """PDF."""
     from .pdf_form import pdf
@@ -56,18 +62,20 @@ FORMS: Mapping[str, Callable[[Figure], bytes]] = {".svg": as_svg, ".pdf": as_pdf
 
 @dataclass(frozen=True)
 class Paper:
-    """The form in which a picture for a paper is wanted, and its width in points."""
+    """The form in which a picture is wanted, its width in points, and whether it is for a screen: of twice the size, and with titles."""
 
     form: str
     width: float
+    is_for_screen: bool = False
 
 
-def timeline_picture(program: Program, document: bytes, timeline: Timeline, paper: Paper) -> bytes:
-    """The picture of a timeline, with the links that `tml reduce` keeps."""
-    kept = {link.number for link in ask_reduced(program, Wording(program, document)).kept}
-    # The links of a timeline are in the order of their numbers; those whose rows were not chosen are not among its ends.
-    ends = [end for number, end in zip(timeline.numbers, timeline.ends, strict=True) if number in kept]
-    return FORMS[paper.form](of_timeline.figure_of(timeline, ends, paper.width))
+SCREEN = Paper(".svg", 600.0, is_for_screen=True)
+
+
+def timeline_picture(timeline: Timeline, paper: Paper, one_each: bool) -> bytes:
+    """The picture of a timeline, perhaps with a lane for each bar."""
+    figure = of_timeline.figure_of(timeline, paper.width, one_each=one_each, with_said=paper.is_for_screen)
+    return as_screen(figure) if paper.is_for_screen else FORMS[paper.form](figure)
 
 
 def clash_picture(program: Program, title: str, document: bytes, clash: PlacedClash, paper: Paper) -> bytes:

@@ -1,75 +1,57 @@
-"""Where ranks and bars stand in a picture of a given width: as far apart as labels ask for, where there is room."""
+"""Where places, labels and bars go in a picture of a given width: places evenly, but for dates, whose names need room."""
 
 from __future__ import annotations
 
-from collections.abc import Callable, Sequence
-from dataclasses import dataclass
+from collections.abc import Sequence
 
-from ..timeline.rows import Row
-from .shapes import LABEL, room
-
-MOST_GAP, PADDING = 5.0, 4.0
-"""How far apart two ranks are at least, where there is room; and what is free beside a label in a bar."""
+Stretch = tuple[float, float]
 
 
-@dataclass(frozen=True)
-class Scale:
-    """Where each rank stands that some row begins or ends with."""
-
-    places: dict[int, float]
-    right: float
-
-    def x(self, rank: int) -> float:
-        """Where a rank stands; one that no row has between its neighbours."""
-        if rank in self.places:
-            return self.places[rank]
-        below = max((one for one in self.places if one < rank), default=None)
-        above = min((one for one in self.places if one > rank), default=None)
-        if below is None or above is None:
-            return self.right if above is None else min(self.places.values())
-        share = (rank - below) / (above - below)
-        return self.places[below] + share * (self.places[above] - self.places[below])
-
-
-def scale_of(rows: Sequence[Row], label_of: Callable[[Row], str], left: float, right: float) -> Scale:
-    """The scale on which as many labels as possible have room in their bars."""
-    ranks = sorted({rank for row in rows for rank in (row.start, row.finish)})
-    if len(ranks) < 2:
-        return Scale(dict.fromkeys(ranks, left), right)
-    numbers = {rank: number for number, rank in enumerate(ranks)}
-    needs = [(numbers[row.start], numbers[row.finish], room(label_of(row), LABEL) + PADDING) for row in rows]
-    width = right - left
-    gap = min(MOST_GAP, width / len(ranks))
-    low, high = 0.0, 1.0
-    if spread(needs, len(ranks), gap, 1.0)[-1] <= width:
-        low = 1.0
-    for _ in range(20 if low < 1 else 0):
+def spread(needs: Sequence[tuple[int, int, float]], count: int, width: float) -> list[float]:
+    """The positions of so many places in a width. Between some two of them so much room is needed, of which each gets the same share."""
+    if count < 2:
+        return [0.0] * count
+    even, low, high = width / (count - 1), 0.0, 1.0
+    for _ in range(20):
         middle = (low + high) / 2
-        fits = spread(needs, len(ranks), gap, middle)[-1] <= width
-        low, high = (middle, high) if fits else (low, middle)
-    found = spread(needs, len(ranks), gap, low)
-    more = max(width - found[-1], 0.0) / (len(ranks) - 1)
-    return Scale({rank: left + found[number] + more * number for rank, number in numbers.items()}, right)
+        low, high = (middle, high) if spaced(needs, count, even / 2, middle)[-1] <= width else (low, middle)
+    # What room is left widens the narrowest stretches first: `gap` is as broad as it can be.
+    gap, most = even / 2, even
+    for _ in range(20):
+        middle = (gap + most) / 2
+        gap, most = (middle, most) if spaced(needs, count, middle, low)[-1] <= width else (gap, middle)
+    found = spaced(needs, count, gap, low)
+    return [place * width / found[-1] for place in found]
 
 
-def spread(needs: Sequence[tuple[int, int, float]], count: int, gap: float, share: float) -> list[float]:
-    """The places of ranks as far left as possible, where each bar has a share of the room that it needs."""
+def spaced(needs: Sequence[tuple[int, int, float]], count: int, gap: float, share: float) -> list[float]:
+    """The positions as far left as possible, with a gap between each two."""
     by_end: dict[int, list[tuple[int, float]]] = {}
-    for start, finish, need in needs:
-        by_end.setdefault(finish, []).append((start, need * share))
+    for start, end, need in needs:
+        by_end.setdefault(end, []).append((start, need * share))
     places = [0.0]
     for number in range(1, count):
-        asked = (places[start] + need for start, need in by_end.get(number, ()))
-        places.append(max(places[-1] + gap, max(asked, default=0.0)))
+        wanted = [(places[start] + need, start) for start, need in by_end.get(number, ())]
+        nearest = places[-1] + gap
+        # A stretch that needs more room gets it at all its places alike.
+        for position, first in wanted:
+            step = (position - places[first]) / (number - first)
+            for inner in range(first + 1, number if position > nearest else 0):
+                places[inner] = max(places[inner], places[first] + step * (inner - first))
+        places.append(max([nearest, *(position for position, _ in wanted)]))
     return places
 
 
-def packed(extents: Sequence[tuple[float, float]]) -> list[int]:
-    """The lane of each of some stretches, in their order, so that none overlap in a lane."""
-    free: list[float] = []
-    lanes = []
-    for begin, end in extents:
-        lane = next((number for number, last in enumerate(free) if last <= begin + 0.01), len(free))
-        free[lane : lane + 1] = [end]
-        lanes.append(lane)
+def packed(extents: Sequence[Stretch], below: Sequence[Sequence[int]] = ()) -> list[int]:
+    """The lane of each of some stretches, so that none overlap in a lane, and each is below some of those before it."""
+    taken: list[list[Stretch]] = []
+    lanes: list[int] = []
+    for number, (begin, end) in enumerate(extents):
+        first = max((lanes[other] + 1 for other in (below[number] if below else ())), default=0)
+        free = (
+            lane for lane in range(first, len(taken)) if all(end <= left + 0.01 or begin >= right - 0.01 for left, right in taken[lane])
+        )
+        lanes.append(next(free, max(first, len(taken))))
+        taken += [[] for _ in range(lanes[-1] + 1 - len(taken))]
+        taken[lanes[-1]].append((begin, end))
     return lanes

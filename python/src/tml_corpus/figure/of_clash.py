@@ -7,8 +7,8 @@ from collections.abc import Sequence
 
 from ..clash.walk_words import WalkStep
 from ..document.words import Wording
-from ..timeline.lettering import fitted, in_lines, plain
-from .shapes import LABEL, NARROWER, SMALL, Box, Figure, Line, Point, Shape, Text, room
+from ..timeline.lettering import fitted, in_lines, measured, plain
+from .shapes import LABEL, SMALL, Box, Figure, Line, Point, Shape, Text
 
 EDGE, LEADING = 3.0, 9.0
 MOST_NAMED = 16
@@ -64,10 +64,10 @@ def named(text: str, centre: Point, point: Point, width: float) -> list[Shape]:
     x, y = point
     is_middle = abs(x - centre[0]) < 12
     if is_middle:
-        text = fitted(text, (width - 2 * EDGE) / NARROWER, LABEL)
+        text = fitted(text, (width - 2 * EDGE), LABEL)
         return [Text(x, y - 6 if y < centre[1] else y + 10.5, text, LABEL, "middle", halo=True)]
     free = (width - x if x > centre[0] else x) - EDGE - 6
-    text = fitted(text, free / NARROWER, LABEL)
+    text = fitted(text, free, LABEL)
     return [Text(x + 6, y + 2.3, text, LABEL, halo=True) if x > centre[0] else Text(x - 6, y + 2.3, text, LABEL, "end", halo=True)]
 
 
@@ -78,17 +78,17 @@ def point_in_words(wording: Wording, point: int) -> str:
 
 def put_lines(figure: Figure, wording: Wording, steps: Sequence[WalkStep], y: float) -> None:
     """A line of words for each step, and what they come to."""
-    indent = room("00 ", LABEL)
+    indent = measured("00 ", LABEL)
     for number, step in enumerate(steps):
         verb = "is before" if step.strict else "is no later than"
         said = f"{point_in_words(wording, step.first)} {verb} {point_in_words(wording, step.second)}, {plain(step.reason)}"
         figure.shapes.append(Text(EDGE + indent - 3, y, str(number + 1), LABEL, "end", bold=True))
-        for line in in_lines(said, (figure.width - 2 * EDGE - indent) / NARROWER, LABEL):
+        for line in in_lines(said, (figure.width - 2 * EDGE - indent), LABEL):
             figure.shapes.append(Text(EDGE + indent, y, line, LABEL))
             y += LEADING
         y += 1.5
     closing = f"So the {point_in_words(wording, steps[0].first)} would be before itself. Solid: before; dashed: no later than."
-    for line in in_lines(closing, (figure.width - 2 * EDGE) / NARROWER, SMALL):
+    for line in in_lines(closing, (figure.width - 2 * EDGE), SMALL):
         figure.shapes.append(Text(EDGE, y, line, SMALL))
         y += LEADING
     figure.height = y - LEADING + 4

@@ -1,23 +1,33 @@
-"""The picture of a timeline: bars packed into lanes on an axis of the calendar with breaks, and the links that no others say as arcs."""
+"""The picture of what is known of a document: dates on an axis, bars in lanes below it, lines between bars, a list, and a legend.
+
+It states only what `timeline.known` holds, by these conventions, which its legend says in words:
+
+- An upright line is a place of the axis. Bars stop short of the position of a strict bound, as `timeline.extents` has it.
+- A line between two bars begins and ends in the third of a bar that is for its start, on the left, or for its end, on the right. An
+  arrow from the middle third of one bar to that of another is from the end of the first one to the start of the second one.
+- Lanes have no meaning, and neither has the place of a label.
+"""
 
 from __future__ import annotations
 
 import re
-from collections.abc import Sequence
+from collections.abc import Collection, Sequence
 from dataclasses import dataclass, field, replace
+from itertools import pairwise
 
-from ..document.date_words import MONTHS
-from ..timeline.lettering import fitted, plain
-from ..timeline.rows import Row, Timeline
-from .layout import PADDING, Scale, packed, scale_of
-from .shapes import GREY, LABEL, NARROWER, SMALL, Box, Figure, Line, Point, Shape, Text, room
+from ..document.date_words import MONTHS, stretch
+from ..timeline.extents import Extent, Positions
+from ..timeline.known import Order
+from ..timeline.lettering import fitted, in_lines, measured, plain
+from ..timeline.rows import NO_INTERVAL, Row, Timeline
+from ..timeline.sentences import called, named, order_said, place_called
+from .layout import packed, spread
+from .shapes import BLACK, GREY, LABEL, SMALL, Box, Figure, Line, Shape, Text
 
-EDGE, BAND, BAR, PITCH = 3.0, 10.0, 10.0, 19.0
+EDGE, BAND, BAR, PITCH = 3.0, 10.0, 10.0, 15.0
 """What is free at the edges; the heights of a date and of a bar; and how far apart two lanes are."""
 
-EARLIER, LATER = ("BEFORE", "IBEFORE"), ("AFTER", "IAFTER")
-INSIDE = ("IS_INCLUDED", "DURING", "BEGINS", "ENDS")
-AROUND = ("INCLUDES", "DURING_INV", "BEGUN_BY", "ENDED_BY")
+PALE, LIGHT = "#D5D5D5", "#A8A8A8"
 
 KINDS = {
     "event": "event",
@@ -29,41 +39,115 @@ KINDS = {
 MONTH = re.compile("|".join(MONTHS))
 YEAR = re.compile(r" (\d{4,5})$")
 
+LINES = {
+    "<": ("before", Line((), arrow=True)),
+    "≤": ("never-after", Line((), 0.7, GREY, dashed=True, arrow=True)),
+    "=": ("together", Line((), 1.7, GREY)),
+}
+"""Of each sign of an order the class and the look of its line."""
+
 
 @dataclass
 class Drawing:
-    """A picture as it is made: its scale, where bars and dates stand, and its shapes."""
+    """A picture as it is made: what is drawn, where places and bars are, and its shapes from the lowest on."""
 
-    scale: Scale
-    boxes: dict[int, Box] = field(default_factory=dict)
-    dates: set[int] = field(default_factory=set)
+    timeline: Timeline
+    width: float
+    positions: Positions
+    rows: dict[int, Row]
+    """The rows that are drawn, by the numbers of their intervals."""
+
+    with_said: bool = False
+    bars: dict[int, Box] = field(default_factory=dict)
     behind: list[Shape] = field(default_factory=list)
+    lines: list[Shape] = field(default_factory=list)
     front: list[Shape] = field(default_factory=list)
 
+    def extent(self, number: int) -> Extent:
+        """The bar of an interval."""
+        return self.positions.extent(self.timeline.known, number)
 
-def figure_of(timeline: Timeline, kept: Sequence[tuple[int, str, int]], width: float) -> Figure:
-    """The picture of the rows that are tied to something, with some links between them."""
-    rows = [(place, row) for place, row in enumerate(timeline.rows) if row.is_tied]
-    dated = [(place, row) for place, row in rows if row.kind == "exact"]
-    barred = [(place, row) for place, row in rows if row.kind != "exact"]
-    names = names_of_dates([row for _, row in dated])
-    labels = {place: names.get(row.name) or label_of(row) for place, row in rows}
-    by_row = {id(row): labels[place] for place, row in rows}
-    drawing = Drawing(scale_of([row for _, row in rows], lambda row: by_row[id(row)], EDGE, width - EDGE))
-    top = put_dates(drawing, dated, labels, width)
-    bottom = put_bars(drawing, barred, labels, top, width)
-    guides = sorted({x for place in drawing.dates for x in (drawing.boxes[place].x, drawing.boxes[place].x + drawing.boxes[place].width)})
-    lines: list[Shape] = [Line(((x, top), (x, bottom)), 0.4, "#BFBFBF") for x in guides]
-    arcs = [arc for link in kept for arc in arc_of(drawing, *link)]
-    figure = Figure(width, f"Timeline of {plain(timeline.title)}", [*lines, *drawing.behind, *arcs, *drawing.front])
-    shown = [relation for left, relation, right in kept if {left, right} <= set(drawing.boxes)]
-    put_legend(figure, [row for _, row in rows], shown, bottom + 6)
+    def said(self, row: Row) -> str:
+        """What is shown where a bar is pointed at."""
+        return row.description() if self.with_said else ""
+
+
+def figure_of(timeline: Timeline, width: float, *, one_each: bool = False, with_said: bool = False) -> Figure:
+    """The picture in a width, perhaps with a lane for each bar, and with what is known of each bar where it is pointed at."""
+    known, every = timeline.known, dict(zip(timeline.order, timeline.rows, strict=True))
+    listed = set(known.listed)
+    rows = {number: row for number, row in every.items() if number not in listed}
+    names = names_of_dates([row for row in rows.values() if row.kind == "exact"])
+    drawing = Drawing(timeline, width, positions_of(timeline, rows, names, width), rows, with_said)
+    top = put_dates(drawing, names)
+    bottom = put_bars(drawing, top, one_each)
+    put_places(drawing, every, top, bottom)
+    for order in known.orders:
+        drawing.lines += line_of(drawing, order)
+    figure = Figure(width, f"Timeline of {plain(timeline.title)}", said=described(timeline, every))
+    figure.shapes = [*drawing.behind, *drawing.lines, *drawing.front]
+    if not timeline.rows:
+        bottom = put_lines(figure, EDGE, EDGE + LABEL, NO_INTERVAL)
+    put_legend(figure, drawing, put_list(figure, drawing, every, bottom))
     return figure
 
 
-def label_of(row: Row) -> str:
-    """The text of a row, or its name where it has none."""
-    return plain(row.text) or row.name
+def described(timeline: Timeline, every: dict[int, Row]) -> str:
+    """What the picture states, in sentences."""
+    places = [place_called(timeline.known, every, place) for place in range(len(timeline.known.axis))]
+    said = [f"In this order: {', '.join(places)}." if places else "Nothing has a place on an axis."]
+    bounds = [(row, [one for one in row.said if one.startswith(("starts", "ends"))]) for row in timeline.rows]
+    said += [f"{named(row)}: {'; '.join(some)}." for row, some in bounds if some]
+    said += [f"Also, {order_said(order, every)}." for order in timeline.known.orders]
+    said += [f"Nothing says when: {', '.join(named(every[number]) for number in timeline.known.listed)}."] if timeline.known.listed else []
+    return " ".join(said)
+
+
+def positions_of(timeline: Timeline, rows: dict[int, Row], names: dict[str, str], width: float) -> Positions:
+    """Where the places are, with a stretch before the first and after the last one if some bar reaches there."""
+    known = timeline.known
+    before = int(any(known.lower[2 * number] is None for number in rows))
+    after = int(any(known.upper[2 * number + 1] is None for number in rows))
+    named = [*dates_of(timeline, rows), *gaps_of(timeline, rows, names)]
+    needs = [(before + one.start, before + one.end, measured(MONTH.sub(short_month, one.name(names)), LABEL) + 5) for one in named]
+    found = [EDGE + place for place in spread(needs, before + len(known.axis) + after, width - 2 * EDGE)]
+    return Positions(found[before : before + len(known.axis)], EDGE, width - EDGE)
+
+
+@dataclass(frozen=True)
+class Dated:
+    """A stretch of the axis that has a name of the calendar: its first and last place, and its date, unless it is between two."""
+
+    start: int
+    end: int
+    number: int | None
+    row: Row | None = None
+    gap: str = ""
+
+    def name(self, names: dict[str, str]) -> str:
+        """How it is called."""
+        return names[self.row.name] if self.row is not None else self.gap
+
+
+def dates_of(timeline: Timeline, rows: dict[int, Row]) -> list[Dated]:
+    """The exact dates that are on the axis, the longest ones first."""
+    found = []
+    for number, row in rows.items():
+        start, end = timeline.known.place(2 * number), timeline.known.place(2 * number + 1)
+        if row.kind == "exact" and start is not None and end is not None:
+            found.append(Dated(start, end, number, row))
+    return sorted(found, key=lambda one: (one.start - one.end, one.start))
+
+
+def gaps_of(timeline: Timeline, rows: dict[int, Row], names: dict[str, str]) -> list[Dated]:
+    """The stretches of the axis between dates that no date covers."""
+    found: list[Dated] = []
+    last: Dated | None = None
+    for one in sorted(dates_of(timeline, rows), key=lambda one: one.start):
+        if last is not None and last.row and one.row and last.end < one.start:
+            found.append(Dated(last.end, one.start, None, gap=between_dates(last.row, one.row, names)))
+        last = one if last is None or one.end > last.end else last
+    return found
 
 
 def names_of_dates(rows: Sequence[Row]) -> dict[str, str]:
@@ -76,167 +160,262 @@ def names_of_dates(rows: Sequence[Row]) -> dict[str, str]:
     return names
 
 
-def put_dates(drawing: Drawing, dated: Sequence[tuple[int, Row]], labels: dict[int, str], width: float) -> float:
-    """The axis: dates in lanes, the longest ones above, with a break where the calendar goes on unseen. Answers where it ends."""
-    ordered = sorted(dated, key=lambda one: (-(one[1].finish - one[1].start), one[1].start))
-    lanes = lanes_of_dates(drawing, ordered)
-    for place, row in dated:
-        x, right = drawing.scale.x(row.start), drawing.scale.x(row.finish)
-        box = Box(x, EDGE + lanes[place] * BAND, right - x, BAND, "exact")
-        drawing.boxes[place] = box
-        drawing.dates.add(place)
-        text = named(labels[place], (box.width - 2) / NARROWER)
-        drawing.front += [box, Text(x + box.width / 2, box.y + 7.3, text, LABEL, "middle")]
-    y = EDGE + (max(lanes.values(), default=-1) + 1) * BAND
-    drawing.behind.append(Line(((EDGE, y), (width - EDGE, y)), 0.6, arrow=True))
-    if not dated:
-        drawing.front += [Text(EDGE, y + 8, "earlier", SMALL, colour=GREY), Text(width - EDGE, y + 8, "later", SMALL, "end", colour=GREY)]
-        return y + 10
-    for finish, start in breaks_of([row for _, row in dated]):
-        drawing.front += broken((drawing.scale.x(finish) + drawing.scale.x(start)) / 2, y)
-    return y
+def short_month(found: re.Match[str]) -> str:
+    """The name of a month in three letters."""
+    return found[0][:3]
 
 
-def breaks_of(rows: Sequence[Row]) -> list[tuple[int, int]]:
-    """The ranks between which no date covers the calendar."""
-    found = []
-    in_order = sorted(rows, key=lambda row: row.start)
-    last = in_order[0]
-    for row in in_order[1:]:
-        if last.civil[1] < row.civil[0] and last.finish <= row.start:
-            found.append((last.finish, row.start))
-        last = max(last, row, key=lambda one: one.finish)
-    return found
+def put_dates(drawing: Drawing, names: dict[str, str]) -> float:
+    """The dates in lanes, the longest ones above, and the gaps of the calendar between them. Answers where the axis is."""
+    places = drawing.positions.places
+    named = [*dates_of(drawing.timeline, drawing.rows), *gaps_of(drawing.timeline, drawing.rows, names)]
+    stretches = [(places[one.start], places[one.end]) for one in named]
+    texts = [placed_name(stretch, one.name(names), drawing.width) for stretch, one in zip(stretches, named, strict=True)]
+    lanes = packed(
+        [(min(begin, x), max(begin + measured(text, LABEL), right)) for (x, right), (text, begin) in zip(stretches, texts, strict=True)]
+    )
+    axis = EDGE + (max(lanes, default=-1) + 1) * BAND + 2
+    for one, lane, (x, right), (text, begin) in zip(named, lanes, stretches, texts, strict=True):
+        y = EDGE + lane * BAND
+        if one.number is not None and one.row is not None:
+            drawing.bars[one.number] = Box(x, y, right - x, BAND, "exact", name=one.row.name, said=drawing.said(one.row))
+            drawing.front.append(drawing.bars[one.number])
+        else:
+            drawing.front += broken((x + right) / 2, axis)
+        drawing.front.append(Text(begin, y + 7.3, text, LABEL, colour=GREY if one.row is None else BLACK))
+    if places:
+        drawing.behind.append(Line(((EDGE, axis), (drawing.width - EDGE, axis)), 0.6, arrow=True))
+    return axis
 
 
-def named(date: str, width: float) -> str:
-    """The name of a date in some room, with short months where there is little."""
-    short = MONTH.sub(lambda found: found[0][:3], date)
-    return date if fitted(date, width, LABEL) == date else fitted(short, width, LABEL)
+def placed_name(stretch: tuple[float, float], name: str, width: float) -> tuple[str, float]:
+    """The name of a date, with short months if it has not enough room, and where it begins: in its stretch, or beyond it."""
+    begin, end = stretch
+    text = name if measured(name, LABEL) + 2 <= end - begin else MONTH.sub(short_month, name)
+    broad = measured(text, LABEL)
+    if broad + 1 <= end - begin:
+        return text, (begin + end - broad) / 2
+    return text, max(min(begin + 1, width - EDGE - broad), EDGE)
 
 
-def lanes_of_dates(drawing: Drawing, ordered: Sequence[tuple[int, Row]]) -> dict[int, int]:
-    """The lane of each date, where one that lies in another lies below it."""
-    taken: list[list[tuple[float, float]]] = []
-    lanes = {}
-    for place, row in ordered:
-        begin, end = drawing.scale.x(row.start), drawing.scale.x(row.finish)
-        lanes[place] = next((lane for lane, others in enumerate(taken) if all(apart(begin, end, other) for other in others)), len(taken))
-        if lanes[place] == len(taken):
-            taken.append([])
-        taken[lanes[place]].append((begin, end))
-    return lanes
-
-
-def apart(begin: float, end: float, other: tuple[float, float]) -> bool:
-    """Whether two stretches do not overlap."""
-    return end <= other[0] + 0.01 or begin >= other[1] - 0.01
+def between_dates(first: Row, second: Row, names: dict[str, str]) -> str:
+    """How the stretch between two dates is called: by these if they are whole days or more, else by the calendar."""
+    one, other = (YEAR.sub("", names[row.name]) for row in (first, second))
+    if "," in one + other or not (one and other):
+        return stretch(first.civil[1], second.civil[0])
+    month = other.rpartition(" ")[2]
+    return f"between {one.removesuffix(f' {month}')} and {other}"
 
 
 def broken(x: float, y: float) -> list[Shape]:
     """The sign of a break of the axis."""
-    return [Line(((x - 2 + by, y + 3), (x + 1 + by, y - 3)), 0.6) for by in (0.0, 2.0)]
+    return [Line(((x - 2 + by, y + 3), (x + 1 + by, y - 3)), 0.6, kind="break") for by in (0.0, 2.0)]
 
 
-def put_bars(drawing: Drawing, barred: Sequence[tuple[int, Row]], labels: dict[int, str], top: float, width: float) -> float:
-    """The bars in lanes below a height, each with its label in it, or beside it where it has no room. Answers where they end."""
-    extents, texts = [], []
-    for place, row in barred:
-        x, right = drawing.scale.x(row.start), drawing.scale.x(row.finish)
-        inside = room(labels[place], LABEL) + PADDING / 2 <= right - x
-        label = labels[place] if inside else fitted(labels[place], max(width - EDGE - right - 3, 12) / NARROWER, LABEL)
-        latest = drawing.scale.x(row.latest[1]) if row.latest else right
-        end = max(latest, right) + (0 if inside else room(label, LABEL) + 5)
-        extents.append((x, end))
-        texts.append((label, inside))
-    lanes = packed(extents)
-    first = top + 9
-    for (place, row), lane, (label, inside) in zip(barred, lanes, texts, strict=True):
-        put_bar(drawing, place, row, first + lane * PITCH, label, inside)
+def put_places(drawing: Drawing, every: dict[int, Row], top: float, bottom: float) -> None:
+    """An upright line for each place; that of a date is darker, and reaches up to it."""
+    dated = {place for one in dates_of(drawing.timeline, drawing.rows) for place in (one.start, one.end)}
+    for place, (x, points) in enumerate(zip(drawing.positions.places, drawing.timeline.known.axis, strict=True)):
+        said = " ".join(f"{every[point // 2].name}{'+' if point % 2 else '-'}" for point in points)
+        width, colour = (0.5, LIGHT) if place in dated else (0.35, PALE)
+        drawing.behind.insert(0, Line(((x, top), (x, bottom)), width, colour, kind="place", points=said))
+
+
+def put_bars(drawing: Drawing, top: float, one_each: bool) -> float:
+    """The bars in lanes below a height, each with its label in it, or next to it. Answers where they end."""
+    known = drawing.timeline.known
+    numbers = [number for number in drawing.rows if number not in drawing.bars]
+    if not one_each:
+        numbers = in_order(numbers, known.orders)
+    extents, labels = [], []
+    for number in numbers:
+        outer = drawing.extent(number).outer
+        text, begin = placed_label(drawing.extent(number), label_of(drawing.rows[number]), drawing.width)
+        labels.append((text, begin))
+        extents.append((min(outer[0], begin) - 1, max(outer[1], begin + measured(text, LABEL)) + 1))
+    places = {number: place for place, number in enumerate(numbers)}
+    below: list[list[int]] = [[] for _ in numbers]
+    for order in known.orders:
+        if is_whole(order) and order.first // 2 in places and order.second // 2 in places:
+            below[places[order.second // 2]].append(places[order.first // 2])
+    lanes = list(range(len(numbers))) if one_each else packed(extents, below)
+    first = top + 7
+    for number, lane, (text, begin) in zip(numbers, lanes, labels, strict=True):
+        put_bar(drawing, number, first + lane * PITCH, text, begin)
     return first + (max(lanes, default=-1) + 1) * PITCH - (PITCH - BAR) + 4
 
 
-def put_bar(drawing: Drawing, place: int, row: Row, y: float, label: str, inside: bool) -> None:
-    """One bar with its whisker and its label."""
-    x, right = drawing.scale.x(row.start), drawing.scale.x(row.finish)
+def in_order(numbers: Sequence[int], orders: Collection[Order]) -> list[int]:
+    """Intervals so that each comes after those that end before it starts, as far as orders say."""
+    waiting = {
+        number: {one.first // 2 for one in orders if is_whole(one) and one.second // 2 == number} & set(numbers) for number in numbers
+    }
+    found: list[int] = []
+    while waiting:
+        number = next(number for number, others in waiting.items() if not others & waiting.keys())
+        del waiting[number]
+        found.append(number)
+    return found
+
+
+def is_whole(order: Order) -> bool:
+    """Whether an order puts a whole interval before another one: its end before the start of that."""
+    return order.first % 2 == 1 and order.second % 2 == 0
+
+
+def label_of(row: Row) -> str:
+    """The text of a row, or its name where it has none."""
+    return called(replace(row, kind="event"))
+
+
+def placed_label(extent: Extent, label: str, width: float) -> tuple[str, float]:
+    """A label and where it begins: in the broadest part of the bar, or in the whole, or next to it, or at the edge of the picture."""
+    begin, end = extent.outer
+    text = fitted(label, max(end - begin - 2, width / 3), LABEL)
+    broad = measured(text, LABEL)
+    cuts = sorted({begin, end, *(extent.solid or ()), *(x for x in (extent.begun, extent.not_ended) if x is not None)})
+    for left, right in (max(pairwise(cuts), key=broadness), (begin, end)):
+        if broad + 3 <= right - left:
+            return text, (left + right - broad) / 2
+    if end + 2 + broad <= width - EDGE:
+        return text, end + 2
+    return text, begin - 2 - broad if begin - 2 - broad >= EDGE else width - EDGE - broad
+
+
+def broadness(stretch: tuple[float, float]) -> float:
+    """How broad a stretch is."""
+    return stretch[1] - stretch[0]
+
+
+def put_bar(drawing: Drawing, number: int, y: float, text: str, begin: float) -> None:
+    """One bar: its outline, its solid part, its marks, and its label."""
+    row, extent = drawing.rows[number], drawing.extent(number)
+    left, right = extent.outer
     filling = "unasserted" if row.unasserted else row.kind
-    box = Box(x, y, right - x, BAR, filling, min(BAR / 2, (right - x) / 2) if row.kind == "event" else 0, row.kind == "free")
-    drawing.boxes[place] = box
-    end = right
-    if row.latest is not None and row.latest[1] > row.finish:
-        end = max(drawing.scale.x(row.latest[1]), right)
-        middle = y + BAR / 2
-        drawing.behind += [Line(((right, middle), (end, middle)), 0.5, GREY), Line(((end, middle - 2), (end, middle + 2)), 0.5, GREY)]
-    drawing.front.append(box)
-    if inside:
-        drawing.front.append(Text(x + box.width / 2, y + 7.3, label, LABEL, "middle", halo=filling != "event"))
-    else:
-        drawing.front.append(Text(end + 2, y + 7.3, label, LABEL, halo=True))
-
-
-def arc_of(drawing: Drawing, left: int, relation: str, right: int) -> list[Shape]:
-    """The arc of a link: from the earlier bar to the later one, or from what lies inside to what lies around it."""
-    if left == right or left not in drawing.boxes or right not in drawing.boxes:
-        return []
-    if relation in EARLIER + LATER:
-        first, second = (left, right) if relation in EARLIER else (right, left)
-        return [precedence(drawing.boxes[first], drawing.boxes[second])]
-    inner, outer = (right, left) if relation in AROUND else (left, right)
-    if relation in INSIDE + AROUND:
-        share = {"BEGINS": 0.0, "BEGUN_BY": 0.0, "ENDS": 1.0, "ENDED_BY": 1.0}.get(relation, 0.5)
-        return [upright(drawing.boxes[inner], drawing.boxes[outer], share)]
-    one, other = drawing.boxes[left], drawing.boxes[right]
-    return [Line(line.points, 1.6 if relation in ("SIMULTANEOUS", "IDENTITY") else 0.6, GREY) for line in [upright(one, other, 0.5)]]
-
-
-def precedence(first: Box, second: Box) -> Line:
-    """From the end of a bar to the start of another one."""
-    start, end = (first.x + first.width, first.y + BAR / 2), (second.x, second.y + second.height / 2)
-    if first.y == second.y:
-        lift = min(7 + (end[0] - start[0]) * 0.06, 10)
-        start, end = (start[0] - 2, first.y), (end[0] + 2, second.y)
-        return Line((start, (start[0] + 2, start[1] - lift), (end[0] - 2, end[1] - lift), end), bent=True, arrow=True)
-    is_below = second.y > first.y
-    end = (second.x + min(4.0, second.width / 2), second.y + (0 if is_below else second.height))
-    bend = min(max((end[0] - start[0]) * 0.6, 4), 40)
-    return Line((start, (start[0] + bend, start[1]), (end[0], end[1] + (-9 if is_below else 9)), end), bent=True, arrow=True)
-
-
-def upright(inner: Box, outer: Box, share: float) -> Line:
-    """From a bar straight to the one around it."""
-    x = inner.x + share * inner.width
-    x = min(max(x, outer.x + 1), outer.x + outer.width - 1)
-    is_below = outer.y > inner.y
-    points: tuple[Point, Point] = ((x, inner.y + (inner.height if is_below else 0)), (x, outer.y + (0 if is_below else outer.height)))
-    return Line(points, 0.6, GREY, dashed=True, dot=True)
-
-
-def put_legend(figure: Figure, rows: Sequence[Row], relations: Sequence[str], y: float) -> None:
-    """What the kinds of bars and lines mean, those that there are; and how far down the picture reaches."""
-    kinds = {"unasserted" if row.unasserted else row.kind for row in rows}
-    items: list[tuple[Shape, str]] = [
-        (Box(0, -5, 9, 6, kind, 3 if kind == "event" else 0), said) for kind, said in KINDS.items() if kind in kinds
-    ]
-    lines = (
-        (EARLIER + LATER, Line(((0, -2), (9, -2)), arrow=True), "before"),
-        (INSIDE + AROUND, Line(((0, -2), (9, -2)), 0.6, GREY, dashed=True, dot=True), "within"),
-        (("SIMULTANEOUS", "IDENTITY"), Line(((0, -2), (9, -2)), 1.6, GREY), "at the same time"),
+    said = drawing.said(row)
+    rounded = min(BAR / 2, (right - left) / 2) if row.kind == "event" else 0.0
+    outline = Box(
+        left, y, right - left, BAR, filling, 0.0 if any(extent.is_open) else min(rounded, 2.5), True, extent.is_open, row.name, said
     )
-    items += [(line, said) for names, line, said in lines if any(relation in names for relation in relations)]
-    if any(row.latest is not None and row.latest[1] > row.finish for row in rows):
-        items.append((Line(((0, -2), (9, -2)), 0.5, GREY), "can end later"))
-    x, y = EDGE, y + 4
+    drawing.bars[number] = outline
+    is_exact = extent.solid == extent.outer and not any(extent.is_open)
+    parts: list[Shape] = [] if is_exact else [outline]
+    if extent.solid is not None:
+        parts.append(
+            Box(extent.solid[0], y, extent.solid[1] - extent.solid[0], BAR, filling, rounded if is_exact else 0.0, name=row.name, said=said)
+        )
+    if extent.begun is not None:
+        parts.append(Line(((extent.begun, y), (extent.begun, y + 4)), 1.4, kind="begun"))
+    if extent.not_ended is not None:
+        parts.append(Line(((extent.not_ended, y + BAR), (extent.not_ended, y + BAR - 4)), 1.4, kind="not-ended"))
+    drawing.behind += parts
+    is_inside = extent.solid is not None and extent.solid[0] <= begin and begin + measured(text, LABEL) <= extent.solid[1]
+    halo = not (is_inside and filling == "event")
+    drawing.front.append(Text(begin, y + 7.3, text, LABEL, slanted=bool(row.unasserted), halo=halo))
+
+
+def line_of(drawing: Drawing, order: Order) -> list[Shape]:
+    """The line of an order between two bars that are drawn: straight down or up if there is room for that."""
+    if order.first // 2 not in drawing.bars or order.second // 2 not in drawing.bars:
+        return []
+    kind, look = LINES[order.sign]
+    look = replace(look, kind=kind, bent=True, arrow=look.arrow or is_whole(order))
+    one, other = drawing.bars[order.first // 2], drawing.bars[order.second // 2]
+    start, end = anchors(third(one, order.first, order), third(other, order.second, order), len(drawing.lines))
+    if one.y == other.y:
+        lift = min(5.0, 2 + abs(end - start) * 0.06)
+        return [replace(look, way=((start, one.y), (start, one.y - lift), (end, other.y - lift), (end, other.y)))]
+    is_below = other.y > one.y
+    from_y, to_y = one.y + (BAR if is_below else 0), other.y + (0 if is_below else BAR)
+    bend = min(abs(to_y - from_y) * 0.6, 14.0) * (1 if is_below else -1)
+    return [replace(look, way=((start, from_y), (start, from_y + bend), (end, to_y - bend), (end, to_y)))]
+
+
+def third(bar: Box, point: int, order: Order) -> tuple[float, float]:
+    """Where a line may meet a bar: in the middle third for a whole interval, else in the third that is for the point."""
+    place = 1 if is_whole(order) else 2 * (point % 2)
+    margin = bar.width / 12
+    return bar.x + place * bar.width / 3 + margin, bar.x + (place + 1) * bar.width / 3 - margin
+
+
+def anchors(one: tuple[float, float], other: tuple[float, float], number: int) -> tuple[float, float]:
+    """Where a line meets two bars: at one position if it may, which differs for lines that follow each other; else as near as it may."""
+    left, right = max(one[0], other[0]), min(one[1], other[1])
+    if left <= right:
+        middle = (left + right) / 2 + min(right - left, 24.0) * ((0.5 + number * 0.382) % 1 - 0.5)
+        return middle, middle
+    return (one[1], other[0]) if one[1] < other[0] else (one[0], other[1])
+
+
+def put_list(figure: Figure, drawing: Drawing, every: dict[int, Row], y: float) -> float:
+    """The intervals that have no bound, each with its orders, in lines. Answers how far down they reach."""
+    known = drawing.timeline.known
+    if not known.listed:
+        return y
+    y = put_lines(figure, EDGE, y + 9, "Nothing says when:", bold=True)
+    told: set[Order] = set()
+    for number in known.listed:
+        orders = [order for order in known.orders if number in (order.first // 2, order.second // 2) and order not in told]
+        told.update(orders)
+        said = "; ".join(order_said(order, every) for order in orders)
+        y = put_lines(figure, EDGE + 4, y, f"{named(every[number])}{': ' if said else ''}{said}", name=every[number].name)
+    return y
+
+
+def put_lines(figure: Figure, x: float, y: float, text: str, *, size: float = LABEL, bold: bool = False, name: str = "") -> float:
+    """A text in lines from a height on. Answers where the next one goes."""
+    for line in in_lines(text, figure.width - EDGE - x, size):
+        figure.shapes.append(Text(x, y, line, size, bold=bold, name=name))
+        y += size + 2.2
+    return y
+
+
+def put_legend(figure: Figure, drawing: Drawing, y: float) -> None:
+    """What there is in the picture means in words; and how far down the picture reaches."""
+    boxes = [one for one in figure.shapes if isinstance(one, Box)]
+    kinds = {one.kind for one in figure.shapes if isinstance(one, Line)}
+    fillings = {(one.filling, one.hollow) for one in boxes}
+    items: list[tuple[Shape, str]] = [
+        (Box(0, -5, 9, 6, kind, hollow=(kind, False) not in fillings), said) for kind, said in KINDS.items() if kind in dict(fillings)
+    ]
+    if drawing.positions.places:
+        said = "a start or an end. Each is before the next one to the right. Between two, place and width say nothing."
+        items.append((Line(((4.5, -5), (4.5, 1)), 0.5, LIGHT), said))
+    if any(one.filling != "exact" and not one.hollow for one in boxes):
+        items.append((Box(0, -5, 9, 6, "event"), "full: it lasts here in any case."))
+    if any(one.hollow for one in boxes):
+        said = "hollow: it may last here, and not beyond. If it stops short of a line it does not reach that; if it touches it, it may."
+        items.append((Box(0, -5, 9, 6, "event", hollow=True), said))
+    if any(any(one.is_open) for one in boxes):
+        items.append((Box(0, -5, 9, 6, "event", hollow=True, is_open=(False, True)), "open: nothing limits it on this side."))
+    if "begun" in kinds:
+        items.append((Line(((4.5, -5), (4.5, -1)), 1.4), "mark at the top of a bar: it has begun here in any case."))
+    if "not-ended" in kinds:
+        items.append((Line(((4.5, -3), (4.5, 1)), 1.4), "mark at the foot of a bar: it has not ended here in any case."))
+    where = "A line meets a bar in its left third for its start, in its right third for its end; "
+    where += "from middle to middle it leads from an end to a start."
+    for sign, said in (("<", "before."), ("≤", "before, or at the same time."), ("=", "at the same time.")):
+        if LINES[sign][0] in kinds:
+            items.append((replace(LINES[sign][1], way=((0, -2), (9, -2))), f"{said} {where}"))
+            where = ""
+    figure.height = put_items(figure, items, y + 6) + 4
+
+
+def put_items(figure: Figure, items: Sequence[tuple[Shape, str]], y: float) -> float:
+    """Signs and what they mean, as many in a line as have room. Answers how far down they reach."""
+    x = EDGE
     for shape, said in items:
-        broad = 12 + room(said, SMALL) + 7
-        if x + broad > figure.width and x > EDGE:
-            x, y = EDGE, y + 9
-        figure.shapes += [moved(shape, x, y), Text(x + 12, y, said, SMALL)]
-        x += broad
-    figure.height = y + 4
+        broad = 12 + measured(said, SMALL)
+        if x > EDGE and x + broad > figure.width - EDGE:
+            x, y = EDGE, y + 9.5
+        figure.shapes.append(moved(shape, x, y))
+        y = put_lines(figure, x + 12, y, said, size=SMALL) - (SMALL + 2.2)
+        x += broad + 7
+    return y
 
 
 def moved(shape: Shape, x: float, y: float) -> Shape:
     """A box or a line at another place."""
     if isinstance(shape, Line):
-        return replace(shape, points=tuple((x + one, y + other) for one, other in shape.points))
+        return replace(shape, way=tuple((x + one, y + other) for one, other in shape.way))
     return replace(shape, x=x + shape.x, y=y + shape.y)

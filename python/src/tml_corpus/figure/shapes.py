@@ -4,26 +4,23 @@ from __future__ import annotations
 
 from dataclasses import dataclass, field
 
-from ..timeline.lettering import measured
-
 LABEL, SMALL = 6.5, 6.0
 """The sizes of letters."""
-
-NARROWER = 0.82
-"""So much room takes a text in the narrower font of these pictures, of that in a wide one."""
 
 BLACK, GREY = "#000000", "#595959"
 
 FILLINGS = {
     "event": ("#56B4E9", ""),
-    "unasserted": ("#FFFFFF", "lines"),
+    "unasserted": ("#D0D0D0", "lines"),
     "exact": ("#F0E442", ""),
     "within": ("#E69F00", "strokes"),
     "free": ("#CC79A7", "dots"),
     "known": ("#009E73", ""),
-    "white": ("#FFFFFF", ""),
 }
 """The colours of Okabe and Ito, which those who see few colours tell apart, and a texture for each that grey does not."""
+
+PALE = {"event": "#E0F1FB", "unasserted": "#F0F0F0", "within": "#FBEBCC", "free": "#F7E8F0"}
+"""The colours of bars that are hollow."""
 
 Point = tuple[float, float]
 
@@ -38,20 +35,40 @@ class Box:
     height: float
     filling: str
     round: float = 0.0
-    dashed: bool = False
+    hollow: bool = False
+    is_open: tuple[bool, bool] = (False, False)
+    """Whether its frame has no left and no right side."""
+
+    name: str = ""
+    """The identifier of the interval of which it is a part."""
+
+    said: str = ""
+    """What is known of that, in lines."""
+
+    def colour(self) -> str:
+        """The colour of its filling."""
+        return PALE[self.filling] if self.hollow else FILLINGS[self.filling][0]
+
+    def texture(self) -> str:
+        """The texture of its filling, if it has one."""
+        return "" if self.hollow else FILLINGS[self.filling][1]
 
 
 @dataclass(frozen=True)
 class Line:
     """A line through points, or where it is bent a curve from the first to the last by two points that bend it."""
 
-    points: tuple[Point, ...]
+    way: tuple[Point, ...]
     width: float = 0.6
     colour: str = BLACK
     dashed: bool = False
     bent: bool = False
     arrow: bool = False
-    dot: bool = False
+    kind: str = ""
+    """What it means, as a class of SVG."""
+
+    points: str = ""
+    """The points of a place of the axis."""
 
 
 @dataclass(frozen=True)
@@ -64,8 +81,11 @@ class Text:
     size: float = LABEL
     anchor: str = "start"
     bold: bool = False
+    slanted: bool = False
     colour: str = BLACK
     halo: bool = False
+    name: str = ""
+    """The identifier of the interval that is listed here."""
 
 
 Shape = Box | Line | Text
@@ -79,8 +99,5 @@ class Figure:
     title: str
     shapes: list[Shape] = field(default_factory=list)
     height: float = 0.0
-
-
-def room(text: str, size: float) -> float:
-    """How much room a text takes."""
-    return NARROWER * measured(text, size)
+    said: str = ""
+    """The same in sentences."""

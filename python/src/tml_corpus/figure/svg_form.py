@@ -6,7 +6,7 @@ from collections.abc import Callable, Mapping
 
 from tml.markup import Markup, element, lined, svg_file
 
-from .shapes import FILLINGS, Box, Figure, Line, Shape, Text
+from .shapes import BLACK, GREY, Box, Figure, Line, Shape, Text
 
 FONT = "Helvetica,Arial,'Liberation Sans',sans-serif"
 POINTS_OF_MILLIMETRE = 72 / 25.4
@@ -19,11 +19,18 @@ def svg(figure: Figure) -> str:
     return svg_file(drawing(figure))
 
 
-def drawing(figure: Figure) -> Markup:
+def on_screen(figure: Figure) -> str:
+    """The picture as a file for a screen, of twice the size."""
+    size = {"width": two(2 * figure.width), "height": two(2 * figure.height), "style": "background:#fff"}
+    return svg_file(drawing(figure, **size))
+
+
+def drawing(figure: Figure, **size: str) -> Markup:
     """The picture as an element."""
     broad, high = two(figure.width), two(figure.height)
-    content = lined(element("title", figure.title), *(drawn(shape, number) for number, shape in enumerate(figure.shapes)))
-    size = {"width": f"{figure.width / POINTS_OF_MILLIMETRE:.2f}mm", "height": f"{figure.height / POINTS_OF_MILLIMETRE:.2f}mm"}
+    said = element("desc", figure.said) if figure.said else None
+    content = lined(element("title", figure.title), said, *(drawn(shape, number) for number, shape in enumerate(figure.shapes)))
+    size = size or {key: f"{length / POINTS_OF_MILLIMETRE:.2f}mm" for key, length in (("width", figure.width), ("height", figure.height))}
     shared = {"viewBox": f"0 0 {broad} {high}", "role": "img", "font_family": FONT}
     return element("svg", "\n", content, **size, **shared)
 
@@ -42,6 +49,8 @@ def drawn_text(text: Text) -> Markup:
     anchor = None if text.anchor == "start" else text.anchor
     letters = {"x": two(text.x), "y": two(text.y), "text_anchor": anchor}
     letters |= {"font_size": two(text.size), "font_weight": "bold" if text.bold else None}
+    letters |= {"class_": "listed" if text.name else None, "data_interval": text.name or None}
+    letters |= {"font_style": "italic" if text.slanted else None}
     words = element("text", text.text, **letters, fill=text.colour)
     if not text.halo:
         return words
@@ -49,17 +58,33 @@ def drawn_text(text: Text) -> Markup:
 
 
 def drawn_box(box: Box, name: str) -> Markup:
-    """A rectangle: its filling, its texture, and its frame."""
-    colour, texture = FILLINGS[box.filling]
+    """A rectangle: its filling, its texture, and its frame. It is in a group with the name of its interval, if it is a part of one."""
+    colour, texture = box.colour(), box.texture()
     places = {"x": two(box.x), "y": two(box.y), "width": two(box.width), "height": two(box.height)}
     places |= {"rx": two(box.round)} if box.round else {}
-    frame = {"stroke": "#000000", "stroke_width": "0.5", "stroke_dasharray": "2 1.2" if box.dashed else None}
-    if not texture:
-        return element("rect", **places, fill=colour, **frame)
-    clip = element("clipPath", element("rect", **places), id=name)
-    ink = {"stroke": "#808080" if colour == "#FFFFFF" else "#FFFFFF", "stroke_width": "1.1" if texture == "dots" else "0.5"}
-    marks = element("path", d=TEXTURES[texture](box), clip_path=f"url(#{name})", fill="none", stroke_linecap="round", **ink)
-    return element("g", clip, element("rect", **places, fill=colour), marks, element("rect", **places, fill="none", **frame))
+    frame = {"stroke": GREY if box.hollow else BLACK, "stroke_width": "0.5"}
+    if any(box.is_open):
+        parts = [element("rect", **places, fill=colour), element("path", d=open_frame(box), fill="none", **frame)]
+    elif texture:
+        clip = element("clipPath", element("rect", **places), id=name)
+        ink = {"stroke": "#FFFFFF", "stroke_width": "1.1" if texture == "dots" else "0.5"}
+        marks = element("path", d=TEXTURES[texture](box), clip_path=f"url(#{name})", fill="none", stroke_linecap="round", **ink)
+        parts = [clip, element("rect", **places, fill=colour), marks, element("rect", **places, fill="none", **frame)]
+    else:
+        parts = [element("rect", **places, fill=colour, **frame)]
+    if not box.name:
+        return parts[0] if len(parts) == 1 else element("g", *parts)
+    sides = "".join(f" open-{side}" for side, is_open in zip(("left", "right"), box.is_open, strict=True) if is_open)
+    said = element("title", box.said) if box.said else None
+    part = "hollow" if box.hollow else "full"
+    return element("g", said, *parts, class_=f"{part} {box.filling}{sides}", data_interval=box.name)
+
+
+def open_frame(box: Box) -> str:
+    """The frame of a rectangle without the sides at which it is open."""
+    (left, right), end, bottom = box.is_open, two(box.x + box.width), two(box.y + box.height)
+    first = f"M{end} {two(box.y)}H{two(box.x)}{'M' + two(box.x) + ' ' + bottom if left else 'V' + bottom}H{end}"
+    return first if right else f"{first}V{two(box.y)}"
 
 
 def steps(first: float, last: float, by: float) -> list[float]:
@@ -89,24 +114,24 @@ TEXTURES: Mapping[str, Callable[[Box], str]] = {"lines": lines, "strokes": strok
 
 
 def drawn_line(line: Line) -> Markup:
-    """A line, with a head or a dot at its end."""
-    first, *others = (f"{two(x)} {two(y)}" for x, y in line.points)
+    """A line, with a head at its end."""
+    first, *others = (f"{two(x)} {two(y)}" for x, y in line.way)
     way = f"M{first}C{' '.join(others)}" if line.bent else f"M{first}L{' '.join(others)}"
-    dashes = "1.6 1.2" if line.dashed else None
-    parts = [element("path", d=way, fill="none", stroke=line.colour, stroke_width=two(line.width), stroke_dasharray=dashes)]
-    if line.arrow:
-        tip, left, right = head(line)
-        parts.append(element("path", d="M{}L{}L{}Z".format(*(f"{two(x)} {two(y)}" for x, y in (tip, left, right))), fill=line.colour))
-    if line.dot:
-        x, y = line.points[-1]
-        parts.append(element("circle", cx=two(x), cy=two(y), r="1.2", fill=line.colour))
-    return element("g", *parts) if len(parts) > 1 else parts[0]
+    words = {"class_": line.kind or None, "data_point": line.points or None}
+    words |= {"stroke": line.colour, "stroke_width": two(line.width), "stroke_dasharray": "1.6 1.2" if line.dashed else None}
+    drawn = element("path", d=way, fill="none", **words)
+    if not line.arrow:
+        return drawn
+    tip, left, right = head(line)
+    return element(
+        "g", drawn, element("path", d="M{}L{}L{}Z".format(*(f"{two(x)} {two(y)}" for x, y in (tip, left, right))), fill=line.colour)
+    )
 
 
 def head(line: Line) -> tuple[tuple[float, float], ...]:
     """The head of an arrow: its tip, and the two points behind it."""
     length, half = 2.6 + 1.6 * line.width, 0.9 + line.width
-    (x, y), (to_x, to_y) = line.points[-2:]
+    (x, y), (to_x, to_y) = line.way[-2:]
     far = max(((to_x - x) ** 2 + (to_y - y) ** 2) ** 0.5, 0.01)
     along, across = (to_x - x) / far, (to_y - y) / far
     back = to_x - along * length, to_y - across * length

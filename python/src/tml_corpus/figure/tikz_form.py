@@ -2,7 +2,7 @@
 
 from __future__ import annotations
 
-from .shapes import FILLINGS, Box, Figure, Line, Shape, Text
+from .shapes import BLACK, GREY, Box, Figure, Line, Shape, Text
 from .svg_form import two
 
 HEAD = r"""% Made by tml-corpus timeline --bare. Compile it alone, or take the tikzpicture into a document with the same packages.
@@ -44,9 +44,8 @@ ANCHORS = {"start": "base west", "middle": "base", "end": "base east"}
 
 def tikz(figure: Figure) -> str:
     """The picture as a file."""
-    used = {one.filling: FILLINGS[one.filling][0] for one in figure.shapes if isinstance(one, Box)}
-    colours = {one.colour for one in figure.shapes if not isinstance(one, Box)} | {"#000000", "#808080", "#FFFFFF"}
-    named = [f"\\definecolor{{{name_of(colour)}}}{{HTML}}{{{colour[1:]}}}" for colour in sorted(colours | set(used.values()))]
+    colours = {one.colour() if isinstance(one, Box) else one.colour for one in figure.shapes} | {BLACK, GREY, "#FFFFFF"}
+    named = [f"\\definecolor{{{name_of(colour)}}}{{HTML}}{{{colour[1:]}}}" for colour in sorted(colours)]
     size = f"\\useasboundingbox (0,0) rectangle ({two(figure.width)},{two(figure.height)});"
     lines = [*named, r"\begin{document}", r"\begin{tikzpicture}[x=1bp,y=-1bp,line cap=butt]", size]
     lines += [one for shape in figure.shapes for one in drawn(shape)]
@@ -69,31 +68,34 @@ def drawn(shape: Shape) -> list[str]:
 
 def drawn_box(box: Box) -> list[str]:
     """A rectangle: its filling, its texture, and its frame."""
-    colour, texture = FILLINGS[box.filling]
+    colour, texture = box.colour(), box.texture()
     corners = f"({two(box.x)},{two(box.y)}) rectangle ({two(box.x + box.width)},{two(box.y + box.height)})"
     shape = f"rounded corners={two(box.round)}bp," if box.round else ""
-    ink = name_of("#808080" if colour == "#FFFFFF" else "#FFFFFF")
+    ink = name_of("#FFFFFF")
     parts = [f"\\fill[{shape}{name_of(colour)}] {corners};"]
     parts += [f"\\fill[{shape}pattern={PATTERNS[texture]},pattern color={ink}] {corners};"] if texture else []
-    dashes = ",dash pattern=on 2bp off 1.2bp" if box.dashed else ""
-    return [*parts, f"\\draw[{shape}{name_of('#000000')},line width=0.5bp{dashes}] {corners};"]
+    if not any(box.is_open):
+        return [*parts, f"\\draw[{shape}{name_of(GREY if box.hollow else BLACK)},line width=0.5bp] {corners};"]
+    (left, right), end, bottom = box.is_open, two(box.x + box.width), two(box.y + box.height)
+    side = "  " if left else " -- "
+    way = f"({end},{two(box.y)}) -- ({two(box.x)},{two(box.y)}){side}({two(box.x)},{bottom}) -- ({end},{bottom})"
+    return [*parts, f"\\draw[{name_of(GREY)},line width=0.5bp] {way}{'' if right else f' -- ({end},{two(box.y)})'};"]
 
 
 def drawn_line(line: Line) -> str:
     """A line, with a head or a dot at its end."""
-    first, *others = (f"({two(x)},{two(y)})" for x, y in line.points)
+    first, *others = (f"({two(x)},{two(y)})" for x, y in line.way)
     way = f"{first} .. controls {others[0]} and {others[1]} .. {others[2]}" if line.bent else " -- ".join([first, *others])
     words = [name_of(line.colour), f"line width={two(line.width)}bp"]
     words += ["dash pattern=on 1.6bp off 1.2bp"] if line.dashed else []
     words += ["-stealth"] if line.arrow else []
-    x, y = line.points[-1]
-    dot = f" \\fill[{name_of(line.colour)}] ({two(x)},{two(y)}) circle [radius=1.2bp];" if line.dot else ""
-    return f"\\draw[{','.join(words)}] {way};{dot}"
+    return f"\\draw[{','.join(words)}] {way};"
 
 
 def drawn_text(text: Text) -> list[str]:
     """A text, on white where it has a halo."""
-    font = f"\\fontsize{{{two(text.size)}bp}}{{{two(text.size * 1.2)}bp}}\\selectfont\\sffamily{chr(92) + 'bfseries' if text.bold else ''}"
+    series = f"{chr(92) + 'bfseries' if text.bold else ''}{chr(92) + 'itshape' if text.slanted else ''}"
+    font = f"\\fontsize{{{two(text.size)}bp}}{{{two(text.size * 1.2)}bp}}\\selectfont\\sffamily{series}"
     halo = ",fill=cFFFFFF" if text.halo else ""
     words = f"anchor={ANCHORS[text.anchor]},inner sep={'1bp' if text.halo else '0bp'},text={name_of(text.colour)}{halo},font={font}"
     return [f"\\node[{words}] at ({two(text.x)},{two(text.y)}) {{{escaped(text.text)}}};"]

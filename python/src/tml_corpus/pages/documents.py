@@ -84,13 +84,13 @@ def examine_document(program: Program, found: Found, document: bytes, wanted: Wa
     wording = Wording(program, document)
     warnings = placed_warnings(program, wording.source, wanted.lint) if wanted.lint is not None else []
     examined = with_counts(ClashReport(Judgement(found.path, warnings=warnings)), wording)
-    return with_timeline(examined, verified(program, found.path, document, reply, is_open=True))
+    return with_timeline(examined, verified(program, found.path, document, reply))
 
 
 def touching_timeline(program: Program, path: str, document: bytes) -> Timeline:
     """The timeline of a document whose links between dates that touch are read as the relation that holds."""
     copy = touching_copy(program, document)
-    return verified(program, path, copy, program.ask(["solve", "-"], copy), is_open=True)
+    return verified(program, path, copy, program.ask(["solve", "-"], copy))
 
 
 def with_counts(report: ClashReport, wording: Wording) -> Examined:
@@ -102,7 +102,7 @@ def with_counts(report: ClashReport, wording: Wording) -> Examined:
 def with_timeline(examined: Examined, timeline: Timeline) -> Examined:
     """The same with a timeline that fits, and the decided pairs."""
     matrix, counts = timeline.matrix, examined.counts
-    if matrix is None or counts is None:
+    if counts is None:
         return examined
     decided = sum(len(matrix.sets[number]) == 1 for number in matrix.cells)
     return replace(examined, timeline=timeline, counts=replace(counts, pairs=len(matrix.cells), decided=decided))

@@ -18,7 +18,7 @@ from ..figure.svg_form import drawing
 from ..files.finding import counted
 from ..timeline.html_rows import LEFT, explained, in_rows
 from ..timeline.lettering import plain
-from ..timeline.plot import Ranks
+from ..timeline.plot import Chain
 from ..timeline.rows import Row, Timeline
 from .documents import Entry, Examined, entry_of, free_dates
 from .frame import coded, framed, isolated, listed, section
@@ -162,7 +162,7 @@ def reading(examined: Examined, wording: Wording, words: Words) -> Markup:
 def timeline_part(timeline: Timeline, words: Words, touching: bool) -> Markup:
     """The timeline, of which each row leads to its word."""
     note = element("p", "Links between dates that touch are read here as the relation that holds.") if touching else NOTHING
-    axis = Ranks.of(timeline, LEFT)
+    axis = Chain.of(timeline, LEFT)
     rows = in_rows(timeline, axis, "a", lambda place, row: leading(words, place, row))
     return section("timeline", "Timeline", note, explained(timeline, axis), element("div", rows, class_="picture"))
 

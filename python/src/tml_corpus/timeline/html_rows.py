@@ -9,9 +9,8 @@ from tml.markup import NOTHING, Markup, Value, element, lined, together
 from . import bars, plot
 from .bars import HATCH, ROW, kinds_of, sign, states_of
 from .lettering import plain
-from .picture import APART, NO_INTERVAL
 from .plot import LANE, Band, Plot, drawn_bands, lanes_of, right_of, upright
-from .rows import Row, Timeline
+from .rows import APART, NO_INTERVAL, Row, Timeline
 
 LEFT, RIGHT = 10, 24
 """What is left free before an axis and after it."""
@@ -83,8 +82,7 @@ def drawn_axis(axis: Plot, dates: Sequence[Band], width: float) -> Markup:
     behind = element("pattern", upright(axis, dates, 0, ROW), id="lines", width=width, height=ROW, patternUnits="userSpaceOnUse")
     marks = [element("text", text, class_="number", x=x, y=float(high - 5)) for x, text in axis.marks()]
     content = together(HATCH, element("defs", behind), drawn_bands(dates, high - 18), marks)
-    unit = "ranks" if isinstance(axis, plot.Ranks) else None
-    corner = element("span", unit, class_="corner")
+    corner = element("span", class_="corner")
     return element("div", corner, element("svg", content, width=width, height=float(high), aria_hidden="true"), class_="head")
 
 

@@ -18,7 +18,7 @@ from . import html_rows
 from .html_rows import LEFT, explained, in_rows
 from .lettering import plain
 from .page_script import SCRIPT
-from .plot import Plot, Ranks
+from .plot import Chain, Plot
 from .rows import Timeline
 
 STYLE = (
@@ -84,7 +84,7 @@ def possible(matrix: Matrix, order: tuple[int, ...]) -> dict[str, object]:
     return {"names": BASE_RELATIONS, "inverses": inverses, "first": FIRST, "sets": sets, "rows": rows}
 
 
-def page(timeline: Timeline, plot_of: Callable[[Timeline, float], Plot] = Ranks.of) -> str:
+def page(timeline: Timeline, plot_of: Callable[[Timeline, float], Plot] = Chain.of) -> str:
     """The page as a file, over an axis of some kind. It is XML too, so that whoever likes can read it with such a reader."""
     digest = base64.b64encode(hashlib.sha256(SCRIPT.encode()).digest()).decode()
     axis = plot_of(timeline, LEFT)
@@ -115,7 +115,6 @@ def page(timeline: Timeline, plot_of: Callable[[Timeline, float], Plot] = Ranks.
 
 def values(timeline: Timeline) -> list[Markup]:
     """What the script knows of a timeline."""
-    assert timeline.matrix is not None
     partners = [sorted({*row.partners} - {place}) for place, row in enumerate(timeline.rows)]
     return [
         data("partners", partners),

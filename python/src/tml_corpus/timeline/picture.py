@@ -1,4 +1,4 @@
-"""A timeline as a file of SVG: a row for each interval over an axis, below a heading that says what it means."""
+"""A placing as a file of SVG: a row for each interval over an axis of seconds, below a heading that says what it means."""
 
 from __future__ import annotations
 
@@ -11,15 +11,12 @@ from ..pages.colours import in_light
 from . import bars, plot
 from .bars import BAR, GAP, HATCH, ROW, kinds_of, sign, states_of
 from .lettering import fitted, in_lines, measured, plain
-from .plot import LANE, SMALL, Plot, Ranks, drawn_bands, lanes_of, right_of, upright
-from .rows import Row, Timeline
+from .plot import LANE, SMALL, Plot, drawn_bands, lanes_of, right_of, upright
+from .rows import APART, NO_INTERVAL, Row, Timeline
 
 MARGIN, TEXT, HEAD = 16, 13, 17
-MOST_LABEL, MOST_NAME, MOST_AROUND, LEAST_WIDTH, FAR = 300, 120, 380, 680, 480
-"""How broad things are at most. Where the axis is broader than the last, bars have texts."""
-
-APART = "Order not known: no link or date ties these to anything."
-NO_INTERVAL = "There is no interval: the document has no event instance and no time."
+MOST_LABEL, MOST_NAME, MOST_AROUND, LEAST_WIDTH = 300, 120, 380, 680
+"""How broad things are at most."""
 
 STYLE = (
     'text{font:13px "DejaVu Sans",Verdana,Helvetica,Arial,sans-serif;fill:var(--ink)}'
@@ -104,11 +101,6 @@ def label(row: Row) -> tuple[str, str]:
     return fitted(text, MOST_LABEL - measured(" " + name, TEXT), TEXT), name
 
 
-def svg(timeline: Timeline) -> str:
-    """The picture as a file of its own, over an axis of ranks."""
-    return picture(timeline, Ranks.of)
-
-
 def picture(timeline: Timeline, plot_of: Callable[[Timeline, float], Plot]) -> str:
     """The picture as a file of its own, over an axis of some kind."""
     columns = Columns.of(timeline)
@@ -174,24 +166,8 @@ def drawn_row(row: Row, columns: Columns, axis: Plot, y: float, width: float) ->
         element("text", element("tspan", text), called, x=MARGIN, y=float(y + 15)),
         beside if word else words(columns.second(), y + 15, before, "small") if before else NOTHING,
         *axis.bars(row, y),
-        after_bar(row, axis, y + 15, width),
     ]
     return element("g", *parts, class_=states_of(row))
-
-
-def after_bar(row: Row, axis: Plot, y: float, width: float) -> Markup:
-    """The text and name of a row after its bar, or before it where there is no room; nothing where there is none, or the axis is short."""
-    left, right = axis.ends()
-    if not isinstance(axis, Ranks) or not row.is_tied or right - left <= FAR:
-        return NOTHING
-    text = " ".join(label(row)).strip()
-    room = measured(text, SMALL) + 8
-    end = axis.x(max(row.finish, row.latest[1]) if row.latest else row.finish)
-    if end + room <= width:
-        return words(end + 8, y, text, "small")
-    if axis.x(row.start) - room >= left:
-        return element("text", text, class_="small", x=float(axis.x(row.start) - 8), y=float(y), text_anchor="end")
-    return NOTHING
 
 
 def words(x: float, y: float, text: str, kind: str | None = None) -> Markup:

@@ -1,4 +1,4 @@
-"""What is drawn to the right of names: an axis, and the bars over it. That of ranks is here, that of seconds in `scaled`."""
+"""What is drawn to the right of names: an axis, and the bars over it. That of what is known is here, that of seconds in `scaled`."""
 
 from __future__ import annotations
 
@@ -8,9 +8,8 @@ from typing import Protocol
 
 from tml.markup import Markup, element, lined, number, together
 
-from .bars import GAP
-from .bars import ROW as ROW_HEIGHT
-from .bars import anywhere, bar_of, is_moving, whisker
+from .bars import GAP, drawn_extent
+from .extents import Positions
 from .lettering import measured
 from .rows import Row, Timeline
 
@@ -60,60 +59,49 @@ class Plot(Protocol):
 
 
 @dataclass(frozen=True)
-class Ranks:
-    """An axis of ranks: where rank 0 stands, how broad a rank is, how many there are, and the times that the calendar fixes."""
+class Chain:
+    """The axis of what is known: its places, as far apart as their number allows, and the times that the calendar fixes."""
 
-    left: float
-    step: float
-    ranks: int
-    dated: tuple[Row, ...] = ()
+    timeline: Timeline
+    positions: Positions
     title: str = "Timeline of "
     caption: str = (
-        "An axis of ranks, which have no lengths: each start and end stands as early as the links and dates allow. Equal ranks are at the "
-        "same time as far as is known. What stands farther left here need not come first in every timeline that fits. A solid bar is "
-        "known: so far it reaches in each timeline with no higher rank. A hollow one is merely the earliest, and a whisker shows how far "
-        "its end can move below the same highest rank."
+        "Each upright line is a start or an end, and is before the next one to the right; between two lines, place and width say nothing. "
+        "A bar is full where its interval lasts in any case, and hollow where it may last; it reaches no farther. If a hollow bar stops "
+        "short of a line it does not reach that, and if it touches the line it may. A bar with an open side has no limit there. A mark at "
+        "the top of a bar: it has begun there in any case; at its foot: it has not ended there in any case."
     )
 
     @classmethod
-    def of(cls, timeline: Timeline, left: float) -> Ranks:
+    def of(cls, timeline: Timeline, left: float) -> Chain:
         """The axis of a timeline, which begins at a place."""
-        ranks = timeline.greatest()
-        step = min(WIDEST_STEP, max(NARROWEST_STEP, PLOT // max(ranks, 1)))
-        return cls(left, step, ranks, tuple(row for row in timeline.rows if row.kind == "exact"))
-
-    def x(self, rank: int) -> float:
-        """Where a rank stands."""
-        return self.left + rank * self.step
+        count = len(timeline.known.axis) + 1
+        step = min(WIDEST_STEP, max(NARROWEST_STEP, PLOT // count))
+        return cls(timeline, Positions([left + step * place for place in range(1, count)], left, left + step * count))
 
     def ends(self) -> tuple[float, float]:
         """Where the axis begins and ends."""
-        return self.left, self.x(self.ranks)
+        return self.positions.left, self.positions.right
 
     def marks(self) -> list[tuple[float, str]]:
-        """The ranks with a number: as many as have room."""
-        room = measured("0" * (len(str(self.ranks)) + 1), SMALL)
-        every = next(count for power in range(9) for digit in (1, 2, 5) if (count := digit * 10**power) * self.step >= room)
-        return [(self.x(rank), str(rank)) for rank in range(0, self.ranks + 1, every)]
+        """The places, without words."""
+        return [(x, "") for x in self.positions.places]
 
     def bands(self) -> list[Band]:
         """The times that the calendar fixes, by its names for them."""
-        found = {(row.start, row.finish, row.dates()) for row in self.dated}
-        longest_first = sorted(found, key=lambda one: (one[0], -one[1], one[2]))
-        return in_lanes([Band(self.x(start), self.x(finish), text) for start, finish, text in longest_first])
+        found = set()
+        for interval, row in zip(self.timeline.order, self.timeline.rows, strict=True):
+            if row.kind == "exact" and row.is_tied:
+                start, end = self.positions.extent(self.timeline.known, interval).outer
+                found.add((start, -end, row.dates()))
+        return in_lanes([Band(start, -end, text) for start, end, text in sorted(found)])
 
     def bars(self, row: Row, y: float) -> list[Markup]:
-        """The bar of a row: hollow where it is merely the earliest, with what is known solid in it and a whisker after it."""
+        """The bar of a row."""
         if not row.is_tied:
-            return [anywhere(*self.ends(), y)]
-        start, finish = self.x(row.start), self.x(row.finish)
-        parts = [bar_of(row, start, y, finish - start)]
-        if row.latest is not None and is_moving(row):
-            if row.latest[0] < row.finish:
-                parts.append(bar_of(row, self.x(row.latest[0]), y, finish - self.x(row.latest[0]), "bar core"))
-            if row.finish < row.latest[1]:
-                parts.append(whisker(finish, self.x(row.latest[1]), y + ROW_HEIGHT / 2))
-        return parts
+            return []
+        extent = self.positions.extent(self.timeline.known, self.timeline.matrix.numbers[row.name])
+        return drawn_extent(row, extent, y)
 
 
 def in_lanes(bands: Sequence[Band]) -> list[Band]:

@@ -1,7 +1,6 @@
-"""The least timeline of one document in rows: printed by `tml solve`, and accepted by `tml verify` before it is looked at.
+"""The timeline of one document: what is known of it by `tml matrix`, with its rows in words.
 
-With it stands how far each end can move below the same highest rank: to where it is in the greatest such timeline, which `tml verify`
-accepts too.
+The rows have the order of the least timeline that `tml solve` printed, once `tml verify` accepted it.
 """
 
 from __future__ import annotations
@@ -9,35 +8,37 @@ from __future__ import annotations
 import os
 import re
 import sys
-from collections.abc import Callable, Collection, Mapping, Sequence
+from collections.abc import Sequence
 from dataclasses import dataclass, replace
 
-from tml.matrices import Matrix
 from tml.replies import EVIDENCE
 
 from ..asking.program import ACCEPTED, CannotRun, Program, Reply
 from ..asking.room import room_for
-from ..clash.clashes import verify_ranks, verify_timeline
+from ..clash.clashes import verify_timeline
 from ..clash.fitting import Unfit, fitting
 from ..command_line.statuses import Status
 from ..document.around import Around, Text, text_around
 from ..document.asserted import AssertedCopy, asserted_copy, unasserted
 from ..document.words import Wording
 from ..figure.draw import FORMS as BARE_FORMS
-from ..figure.draw import Paper, clash_picture, timeline_picture
+from ..figure.draw import SCREEN, Paper, clash_picture, timeline_picture
 from ..files.finding import CannotRead, counted, read_document, shown
 from ..files.replacing import replace_file
-from ..matrix.reading import matrix_of
+from ..matrix.orders import PointOrders, base_relation
+from ..matrix.reading import NOT_FITTING, matrix_of
 from ..seconds.formats import change_lines, unplaced_lines
 from ..seconds.placed import Placed, Unplaced, document_placed
-from .greatest import Ranks, as_evidence, greatest_timeline, untied
-from .leeway import base_relation, leeways
+from .known import Known
 from .page import page
-from .picture import svg
 from .rows import Row, Timeline
+from .sentences import sentences
 
-FORMS: Mapping[str, Callable[[Timeline], str]] = {".svg": svg, ".html": page, ".htm": page}
-"""How a timeline is drawn, by the end of the file's name."""
+Ranks = tuple[int, int]
+"""Where the start and the end of an interval are: ranks of a timeline, or seconds of a placing."""
+
+PAGES = (".html", ".htm")
+"""How the name of a page ends."""
 
 STANDARD_OUTPUT = "-"
 
@@ -71,7 +72,7 @@ class Drawn:
 def form_of(target: str) -> str:
     """The end of a file's name that says how to draw; other ends are refused. Standard output is SVG."""
     end = os.path.splitext(target)[1].lower() if target != STANDARD_OUTPUT else ".svg"
-    if end not in {*FORMS, *BARE_FORMS}:
+    if end not in {*PAGES, *BARE_FORMS}:
         raise ValueError(f"{target} ends in none of .svg, .html, .pdf and .tex")
     return end
 
@@ -112,11 +113,9 @@ def picture_of_placing(program: Program, path: str, target: str, found: Placed, 
     """The picture of a placing."""
     from .scaled import scaled_page, scaled_svg, with_ranges
 
-    matrix = matrix_of(program, found.wording.document, found.wording.intervals)
     seconds = dict(zip(found.order, ((one.start, one.end) for one in found.intervals), strict=True))
     ranks = [seconds[number] for number in range(len(seconds))]
-    timeline = with_ranges(in_rows(os.path.basename(path), found.wording, ranks, untied(matrix)), found)
-    timeline = ordered(narrowed(replace(timeline, matrix=matrix), choices), choices)
+    timeline = with_ranges(timeline_of(program, os.path.basename(path), found.wording, ranks, choices), found)
     return scaled_svg(timeline) if form_of(target) == ".svg" else scaled_page(timeline)
 
 
@@ -126,13 +125,13 @@ def draw_document(program: Program, path: str, document: bytes, target: str, cho
     found = fitting(program, path, document, "drawn", choices.touching)
     if isinstance(found, Unfit):
         return drawn_clash(program, path, target, found, choices)
-    timeline = ordered(narrowed(verified(program, path, found.document, found.reply, is_open=True), choices), choices)
-    counts = f"{counted(len(timeline.rows), 'interval')}, {counted(timeline.links, 'link')}, ranks 0 to {timeline.greatest()}"
-    if choices.paper is not None:
-        picture: str | bytes = timeline_picture(program, found.document, timeline, choices.paper)
-    else:
-        picture = FORMS[form_of(target)](timeline)
-    return Drawn(found.text + drawn_line(path, target, counts, copy), Status.SUCCESS, picture)
+    timeline = verified(program, path, found.document, found.reply, choices)
+    places = counted(len(timeline.known.axis), "place")
+    counts = f"{counted(len(timeline.rows), 'interval')}, {counted(len(timeline.ends), 'link')}, an axis of {places}"
+    said = found.text + drawn_line(path, target, counts, copy)
+    if form_of(target) in PAGES:
+        return Drawn(said, Status.SUCCESS, page(timeline))
+    return Drawn(said, Status.SUCCESS, timeline_picture(timeline, choices.paper or SCREEN, choices.in_text_order))
 
 
 def drawn_clash(program: Program, path: str, target: str, unfit: Unfit, choices: Choices) -> Drawn:
@@ -141,23 +140,6 @@ def drawn_clash(program: Program, path: str, target: str, unfit: Unfit, choices:
         return undrawn(unfit)
     picture = clash_picture(program, os.path.basename(path), unfit.document, unfit.clash, choices.paper)
     return Drawn(unfit.text + f"{shown(path)}: its first clash is drawn in {shown(target)}\n", unfit.status, picture)
-
-
-def narrowed(timeline: Timeline, choices: Choices) -> Timeline:
-    """The same timeline with the rows that were chosen, and with the words around events or without."""
-    rows = timeline.rows if choices.context else [replace(row, around=Around()) for row in timeline.rows]
-    if not choices.rows:
-        return replace(timeline, rows=rows)
-    wanted = set(choices.rows)
-    unknown = sorted(wanted - {row.name for row in rows})
-    if unknown:
-        raise CannotRun(f"no interval is called {', '.join(unknown)}, as --rows has it")
-    new = {place: number for number, place in enumerate(place for place, row in enumerate(rows) if row.name in wanted)}
-    kept = [number for number, (left, _, right) in enumerate(timeline.ends) if left in new and right in new]
-    found = [replace(rows[place], partners=[new[other] for other in rows[place].partners if other in new]) for place in new]
-    ends = tuple((new[timeline.ends[one][0]], timeline.ends[one][1], new[timeline.ends[one][2]]) for one in kept)
-    order, numbers = tuple(timeline.order[place] for place in new), tuple(timeline.numbers[one] for one in kept)
-    return replace(timeline, rows=found, links=len(kept), order=order, ends=ends, numbers=numbers)
 
 
 def chosen(program: Program, document: bytes, choices: Choices) -> tuple[bytes, AssertedCopy | None]:
@@ -174,8 +156,8 @@ def drawn_line(path: str, target: str, counts: str, copy: AssertedCopy | None) -
     return f"{shown(path)}: drawn in {shown(target)}: {counts}{left_out}\n"
 
 
-def verified(program: Program, path: str, document: bytes, reply: Reply, *, is_open: bool) -> Timeline:
-    """The rows of what `tml solve` printed, once `tml verify` said that it is a timeline of the document; perhaps with what is open."""
+def verified(program: Program, path: str, document: bytes, reply: Reply, choices: Choices = Choices()) -> Timeline:
+    """The timeline of a document, once `tml verify` said that what `tml solve` printed is one."""
     verify_timeline(program, document, reply)
     found = re.fullmatch(EVIDENCE + rb"timeline \d+\n((?:at \d+ \d+\n)*)end\n", reply.text)
     if found is None:
@@ -185,75 +167,61 @@ def verified(program: Program, path: str, document: bytes, reply: Reply, *, is_o
     points = {point for pair in ranks for point in pair}
     if points and len(points) != max(points) + 1:
         raise CannotRun("the timeline that tml solve printed is not the least one")
-    wording, title = Wording(program, document), os.path.basename(path)
-    if not is_open:
-        return in_rows(title, wording, ranks)
-    matrix = matrix_of(program, wording.document, wording.intervals)
-    return with_matrix(program, wording, in_rows(title, wording, ranks, untied(matrix)), ranks, matrix)
+    return timeline_of(program, os.path.basename(path), Wording(program, document), ranks, choices)
 
 
-def with_matrix(program: Program, wording: Wording, timeline: Timeline, ranks: list[Ranks], matrix: Matrix) -> Timeline:
-    """The same with what is open: what `tml matrix` printed, and how far each end can move by that."""
-    if any(base_relation(ranks[left], ranks[right]) not in matrix.sets[number] for left, right, number in matrix.pairs()):
-        raise CannotRun("the answers of tml to `solve` and `matrix` do not belong together")
-    latest = greatest_timeline(matrix, ranks)
-    verify_ranks(program, wording.document, as_evidence(latest), "the greatest timeline that was counted from tml matrix")
-    found = leeways(matrix, wording.dates)
-    rows = [
-        replace(row, leeway=tuple(found[2 * number : 2 * number + 2]), latest=latest[number])
-        for row, number in zip(timeline.rows, timeline.order, strict=True)
-    ]
-    return replace(timeline, rows=rows, matrix=matrix)
-
-
-def in_rows(title: str, wording: Wording, ranks: Sequence[Ranks], loose: Collection[int] = ()) -> Timeline:
-    """The intervals in the order of their starts; of those that start together the ones that end later come first.
-
-    Those of some numbers nothing ties: they come last, in the order of the text, but for times that the calendar places.
-    """
+def timeline_of(program: Program, title: str, wording: Wording, ranks: Sequence[Ranks], choices: Choices) -> Timeline:
+    """What is known of the chosen intervals of a document, in rows that have the order of some ranks, or of the text."""
     if len(ranks) != len(wording.intervals):
         raise CannotRun("the answers of tml to `check` and `solve` do not belong together")
-    found = rows_of(wording, ranks, loose)
-    order = sorted(range(len(ranks)), key=lambda number: sorting(found[number], number))
-    rows = [found[number] for number in order]
-    places = {row.name: place for place, row in enumerate(rows)}
+    matrix, rows = matrix_of(program, wording.document, wording.intervals), rows_of(wording, ranks)
+    if any(base_relation(ranks[left], ranks[right]) not in matrix.sets[number] for left, right, number in matrix.pairs()):
+        raise CannotRun(NOT_FITTING)
+    wanted = chosen_rows(rows, choices.rows)
+    known = Known.of(PointOrders.of(matrix), [number for number in wanted if rows[number].kind == "exact"], wanted)
+    said = sentences(known, {number: rows[number] for number in wanted})
+    listed = set(known.listed)
+    rows = [replace(row, said=said.get(number, ()), is_tied=number not in listed) for number, row in enumerate(rows)]
+    rows = rows if choices.context else [replace(row, around=Around()) for row in rows]
+    order = sorted(wanted, key=lambda number: sorting(rows[number], number, choices.in_text_order))
+    return linked(Timeline(title, [rows[number] for number in order], matrix, known, tuple(order)), wording)
+
+
+def chosen_rows(rows: Sequence[Row], names: Sequence[str]) -> list[int]:
+    """The numbers of the intervals of some names, or of all."""
+    unknown = sorted(set(names) - {row.name for row in rows})
+    if unknown:
+        raise CannotRun(f"no interval is called {', '.join(unknown)}, as --rows has it")
+    return [number for number, row in enumerate(rows) if not names or row.name in names]
+
+
+def linked(timeline: Timeline, wording: Wording) -> Timeline:
+    """The same with the links between its rows."""
+    places = {row.name: place for place, row in enumerate(timeline.rows)}
     ends = []
     for link in map(wording.link, range(len(wording.link_tags))):
-        left, right = places[link.left], places[link.right]
-        ends.append((left, link.relation, right))
-        words = wording.in_words(link)
-        for place, other in {left: right, right: left}.items():
-            rows[place].links.append(words)
-            rows[place].partners.append(other)
-    return Timeline(title, rows, len(wording.link_tags), order=tuple(order), ends=tuple(ends), numbers=tuple(range(len(ends))))
+        if link.left in places and link.right in places:
+            left, right = places[link.left], places[link.right]
+            ends.append((left, link.relation, right))
+            for place, other in {left: right, right: left}.items():
+                timeline.rows[place].links.append(wording.in_words(link))
+                timeline.rows[place].partners.append(other)
+    return replace(timeline, ends=tuple(ends))
 
 
-def sorting(row: Row, number: int) -> tuple[bool, int, int, int]:
-    """Where a row stands among the others."""
-    return (False, row.start, -row.finish, number) if row.is_tied else (True, row.place, 0, number)
+def sorting(row: Row, number: int, in_text_order: bool) -> tuple[bool, int, int, int]:
+    """Where a row is among the others: those that are listed come last."""
+    return (False, row.start, -row.finish, number) if row.is_tied and not in_text_order else (not row.is_tied, row.place, 0, number)
 
 
-def ordered(timeline: Timeline, choices: Choices) -> Timeline:
-    """The same timeline, with its rows in the order of the text where that is wanted."""
-    if not choices.in_text_order:
-        return timeline
-    old = timeline.in_text_order()
-    new = {place: number for number, place in enumerate(old)}
-    rows = [replace(timeline.rows[place], partners=[new[other] for other in timeline.rows[place].partners]) for place in old]
-    ends = tuple((new[left], relation, new[right]) for left, relation, right in timeline.ends)
-    return replace(timeline, rows=rows, order=tuple(timeline.order[place] for place in old), ends=ends)
-
-
-def rows_of(wording: Wording, ranks: Sequence[Ranks], loose: Collection[int]) -> list[Row]:
+def rows_of(wording: Wording, ranks: Sequence[Ranks]) -> list[Row]:
     """The rows of the intervals by their numbers, without their links."""
     tags = {tag.start for tag in map(wording.tag_of, wording.intervals) if tag is not None}
     text, reasons = text_around(wording.units, wording.document, tags), unasserted(wording)
     rows = []
     for number, pair in enumerate(ranks):
         row = row_of(wording, number, pair)
-        is_tied = number not in loose or row.kind in ("exact", "within")
-        found = replace(row, unasserted=reasons.get(row.name, ""), is_tied=is_tied)
-        rows.append(standing(wording, found, text))
+        rows.append(standing(wording, replace(row, unasserted=reasons.get(row.name, "")), text))
     return rows
 
 

@@ -1,0 +1,66 @@
+"""What is known of intervals, in sentences: when each starts and ends, by the axis, and in which orders it is besides."""
+
+from __future__ import annotations
+
+from collections.abc import Mapping
+
+from .known import Bound, Known, Order
+from .lettering import plain
+from .rows import Row
+
+VERBS = {"<": "is before", "≤": "is never after", "=": "is"}
+
+
+def called(row: Row) -> str:
+    """How an interval is called: a date by the calendar, another one by its text, or by its name if it has none."""
+    return row.dates() if row.kind == "exact" else plain(row.text) or row.name
+
+
+def named(row: Row) -> str:
+    """The same with its name."""
+    return row.name if called(row) == row.name else f"{called(row)} ({row.name})"
+
+
+def point_called(rows: Mapping[int, Row], point: int) -> str:
+    """How a point is called."""
+    return f"the {'end' if point % 2 else 'start'} of {named(rows[point // 2])}"
+
+
+def place_called(known: Known, rows: Mapping[int, Row], place: int, besides: int = -1) -> str:
+    """How a place of the axis is called: by a date if there is one, and not by some interval if there is another one."""
+    points = sorted(known.axis[place], key=lambda point: (point // 2 == besides, rows[point // 2].kind != "exact", point))
+    return point_called(rows, points[0])
+
+
+def sentences(known: Known, rows: Mapping[int, Row]) -> dict[int, tuple[str, ...]]:
+    """Of each interval the sentences on its start and end, and on its orders."""
+    found: dict[int, list[str]] = {number: [] for number in rows}
+    for number in rows:
+        for point, verb in ((2 * number, "starts"), (2 * number + 1, "ends")):
+            when = bounded(known, rows, point)
+            found[number] += [f"{verb} {when}"] if when else []
+    for order in known.orders:
+        for number in sorted({order.first // 2, order.second // 2}):
+            found[number].append(order_said(order, rows))
+    return {number: tuple(said) for number, said in found.items()}
+
+
+def bounded(known: Known, rows: Mapping[int, Row], point: int) -> str:
+    """Between which places a point lies, or at which."""
+    place, number = known.place(point), point // 2
+    if place is not None and known.axis[place] != [point]:
+        return f"at {place_called(known, rows, place, number)}"
+    lower, upper = known.lower[point], known.upper[point]
+    if place is not None:
+        lower, upper = Bound(place - 1, True), Bound(place + 1, True)
+    parts = [
+        f"{words[bound.strict]} {place_called(known, rows, bound.place, number)}"
+        for bound, words in ((lower, ("not before", "after")), (upper, ("not after", "before")))
+        if bound is not None and 0 <= bound.place < len(known.axis) and known.axis[bound.place] != [point ^ 1]
+    ]
+    return " and ".join(parts)
+
+
+def order_said(order: Order, rows: Mapping[int, Row]) -> str:
+    """An order in words."""
+    return f"{point_called(rows, order.first)} {VERBS[order.sign]} {point_called(rows, order.second)}"

@@ -1,0 +1,223 @@
+"""Pictures of timelines: what they state is what `tml matrix` says, read from their geometry; and they can be read."""
+
+from __future__ import annotations
+
+import itertools
+import random
+import re
+import subprocess
+import unittest
+import xml.etree.ElementTree as ElementTree
+from collections import Counter
+from collections.abc import Iterator
+
+from corpus import TML, CorpusTest, by_library, needs_library, needs_matrix, text_at
+from picture_reader import SVG, Picture, Statement
+from reference.relations import holds
+from tml.statuses import BASE_RELATIONS, RELATIONS
+from tml_corpus.figure.draw import Paper, width_of
+from tml_corpus.timeline.lettering import measured
+from tml_corpus.timeline.timeline import Choices, draw_document
+
+DOCUMENTS = 200
+
+KINDS = ("places in order", "places at once", "full from", "full to", "reaches from", "reaches to", "may reach", "open side",
+         "mark begun", "mark not-ended", "line before", "line never-after", "line together", "listed", "in words")  # fmt: skip
+"""The kinds of statements that each form makes somewhere."""
+
+
+def signs_of_relations() -> dict[str, tuple[str, str, str, str]]:
+    """Of each base relation how the start and the end of an interval are to the start and the end of another one, by the reference."""
+    intervals = list(itertools.combinations(range(4), 2))
+    found = {}
+    for relation in BASE_RELATIONS:
+        one, other = next(pair for pair in itertools.product(intervals, repeat=2) if holds(pair[0], relation.encode(), pair[1]))
+        signs = ["<" if first < second else "=" if first == second else ">" for first in one for second in other]
+        found[relation] = (signs[0], signs[1], signs[2], signs[3])
+    return found
+
+
+SIGNS = signs_of_relations()
+
+
+class Truth:
+    """What `tml matrix` says of the points of a document: which are never after which others, and which are before them."""
+
+    def __init__(self, text: str) -> None:
+        self.never_after: set[tuple[str, str]] = set()
+        self.before: set[tuple[str, str]] = set()
+        self.decided: list[tuple[str, str]] = []
+        for line in text.splitlines():
+            first, second, *relations = line.split(" ")
+            self.note(first + "-", first + "+", {"<"})
+            self.note(second + "-", second + "+", {"<"})
+            for place, (one, other) in enumerate(itertools.product("-+", repeat=2)):
+                self.note(first + one, second + other, {SIGNS[relation][place] for relation in relations})
+            if len(relations) == 1:
+                self.decided.append((first, second))
+
+    def note(self, first: str, second: str, signs: set[str]) -> None:
+        """Notes how one point can be to another one."""
+        self.never_after |= {(point, point) for point in (first, second)}
+        self.never_after |= {pair for pair, wrong in (((first, second), ">"), ((second, first), "<")) if wrong not in signs}
+        self.before |= {pair for pair, only in (((first, second), {"<"}), ((second, first), {">"})) if signs == only}
+
+    def confirms(self, said: Statement) -> bool:
+        """Whether a statement is so."""
+        pair, turned = (said.first, said.second), (said.second, said.first)
+        if said.sign == "may be <":
+            return turned not in self.never_after
+        return {"<": pair in self.before, "≤": pair in self.never_after, "=": {pair, turned} <= self.never_after}[said.sign]
+
+
+def closure(statements: list[Statement], points: set[str]) -> tuple[set[tuple[str, str]], set[tuple[str, str]]]:
+    """What follows from statements: which points are never after which others, and which are before them."""
+    weak = {(point, point) for point in points} | {(point, point[:-1] + "+") for point in points}
+    strict = {(point, point[:-1] + "+") for point in points if point.endswith("-")}
+    for said in statements:
+        if said.sign != "may be <":
+            weak.add((said.first, said.second))
+            weak |= {(said.second, said.first)} if said.sign == "=" else set()
+            strict |= {(said.first, said.second)} if said.sign == "<" else set()
+    for middle in points:
+        into, out = [one for one in points if (one, middle) in weak], [one for one in points if (middle, one) in weak]
+        for one, other in itertools.product(into, out):
+            weak.add((one, other))
+            if (one, middle) in strict or (middle, other) in strict:
+                strict.add((one, other))
+    return weak, strict
+
+
+def random_document(number: int) -> str:
+    """A document that some timeline fits: links that hold between intervals whose places are drawn first, dates, and durations."""
+    chance = random.Random(f"pictures {number}")
+    tags, intervals, links = [], {}, []
+    for place in range(chance.randrange(2, 12)):
+        name, kind = f"i{place}", chance.choice(["event"] * 5 + ["exact", "exact", "within", "free"])
+        first = chance.randrange(0, 28)
+        if kind == "event":
+            tags.append(f'<EVENT eid="e{place}" class="STATE">w{place}</EVENT><MAKEINSTANCE eiid="{name}" eventID="e{place}"/>')
+        elif kind == "free":
+            tags.append(f'<TIMEX3 tid="{name}" type="DURATION" value="P3D">w{place}</TIMEX3>')
+        elif kind == "within":
+            tags.append(f'<TIMEX3 tid="{name}" type="DATE" value="1998-01-XX">w{place}</TIMEX3>')
+        else:
+            tags.append(f'<TIMEX3 tid="{name}" type="DATE" value="1998-01-{first + 1:02}">w{place}</TIMEX3>')
+        length = {"exact": 4, "within": 4}.get(kind, chance.choice([1, 2, 4, 8, 16, 40]))
+        begin = 4 * first if kind in ("exact", "within") else chance.randrange(-20, 130)
+        intervals[name] = (begin, begin + length)
+    for one, other in itertools.permutations(intervals, 2):
+        fitting = [relation for relation in RELATIONS if holds(intervals[one], relation.encode(), intervals[other])]
+        if fitting and chance.random() < 0.16:
+            is_time = [f'tid="{name}"' in "".join(tags) for name in (one, other)]
+            left, right = "timeID" if is_time[0] else "eventInstanceID", "relatedToTime" if is_time[1] else "relatedToEventInstance"
+            links.append(f'<TLINK {left}="{one}" {right}="{other}" relType="{chance.choice(fitting)}"/>')
+    return "<TimeML>" + ". ".join(tags) + "".join(links) + "</TimeML>"
+
+
+class Pictures(CorpusTest):
+    """Pictures that are drawn in this process."""
+
+    FORMS = {"screen": None, "84mm": Paper(".svg", width_of("84mm")), "174mm": Paper(".svg", width_of("174mm"))}
+
+    def drawn(self, content: str, form: str) -> str:
+        """The picture of a document in a form."""
+        found = draw_document(self.program, "d.xml", content.encode(), "d.svg", Choices(paper=self.FORMS[form]))
+        self.assertEqual(found.status, 0, found.text)
+        assert isinstance(found.picture, bytes)
+        return found.picture.decode()
+
+    def setUp(self) -> None:
+        super().setUp()
+        self.program = by_library()
+
+    def truth(self, content: str) -> Truth:
+        """What `tml matrix` says of a document."""
+        self.write("d.xml", content)
+        done = subprocess.run([TML, "matrix", self.path("d.xml")], stdout=subprocess.PIPE, check=True)
+        return Truth(done.stdout.decode())
+
+
+@needs_matrix
+@needs_library
+class Stated(Pictures):
+    """That pictures state what follows, and nothing else."""
+
+    def test_random_documents(self) -> None:
+        counts = {form: Counter[str]() for form in self.FORMS}
+        decided = 0
+        for number in range(DOCUMENTS):
+            content = random_document(number)
+            truth = self.truth(content)
+            for form in self.FORMS:
+                stated = self.stated(content, form, truth, number)
+                counts[form].update(said.kind for said in stated)
+            decided += len(truth.decided)
+        for form, found in counts.items():
+            self.assertEqual([kind for kind in KINDS if not found[kind]], [], form)
+        self.assertGreater(decided, 1000)
+
+    def stated(self, content: str, form: str, truth: Truth, number: int) -> list[Statement]:
+        """The statements of a picture, all of which are so, and from which all follows that is known of two points."""
+        named = re.findall(r"(?:eiid|tid)=\"(i\d+)\"", content)
+        stated = list(Picture.read(self.drawn(content, form)).statements())
+        wrong = [said for said in stated if not truth.confirms(said)]
+        self.assertEqual(wrong, [], f"document {number}, {form}: {content}")
+        weak, strict = closure(stated, {name + end for name in named for end in "-+"})
+        self.assertEqual((truth.never_after - weak, truth.before - strict), (set(), set()), f"document {number}, {form}: {content}")
+        return stated
+
+
+@needs_matrix
+@needs_library
+class Read(Pictures):
+    """That pictures can be read."""
+
+    def contents(self) -> Iterator[str]:
+        """Documents of several kinds and sizes."""
+        yield from map(random_document, range(0, DOCUMENTS, 10))
+        yield from (text_at("samples", name) for name in ("ferry.xml", "rates.xml", "bridge.xml"))
+        for count in (34, 60):
+            tags = "".join(
+                f'<EVENT eid="e{n}" class="STATE">word{n}</EVENT><MAKEINSTANCE eiid="i{n}" eventID="e{n}"/>' for n in range(count)
+            )
+            ends = [(n, n + 1 if n % 3 else (n + 2) % count) for n in range(count - 2)]
+            yield f"<TimeML>{tags}" + "".join(
+                f'<TLINK eventInstanceID="i{one}" relatedToEventInstance="i{other}" relType="{"BEFORE" if one % 5 else "INCLUDES"}"/>'
+                for one, other in ends
+            ) + "</TimeML>"
+
+    def test_no_text_is_cut_or_over_another(self) -> None:
+        for content, form in itertools.product(self.contents(), self.FORMS):
+            picture = Picture.read(self.drawn(content, form))
+            boxes = []
+            for x, y, anchor, size, text in picture.texts:
+                self.assertEqual(anchor, "start")
+                boxes.append((x, x + measured(text, size), y - 0.72 * size, y + 0.15 * size, text))
+                self.assertTrue(
+                    0 <= x and boxes[-1][1] <= picture.width + 0.1 and 0 <= boxes[-1][2] and boxes[-1][3] <= picture.height, text
+                )
+                self.assertNotIn("\u2026", text)
+            for one, other in itertools.combinations(boxes, 2):
+                is_apart = one[1] <= other[0] or other[1] <= one[0] or one[3] <= other[2] or other[3] <= one[2]
+                self.assertTrue(is_apart, f"{one[4]} and {other[4]}, {form}: {content}")
+
+    def test_bars_of_different_intervals_do_not_meet(self) -> None:
+        for content, form in itertools.product(self.contents(), self.FORMS):
+            for one, other in itertools.combinations(Picture.read(self.drawn(content, form)).whole_bars(), 2):
+                is_apart = min(one.right, other.right) <= max(one.left, other.left) + 0.02 or min(one.bottom, other.bottom) <= max(
+                    one.top, other.top
+                )
+                self.assertTrue(is_apart, (one, other))
+
+    def test_those_who_do_not_see_are_told(self) -> None:
+        root = ElementTree.fromstring(self.drawn(text_at("samples", "ferry.xml"), "84mm").encode())
+        said = [next(root.iter(SVG + name)).text or "" for name in ("title", "desc")]
+        self.assertEqual((root.get("role"), said[0]), ("img", "Timeline of d.xml"))
+        self.assertIn("left (ei1): starts after the start of 9 March 1998 (t1); ends before the end of 9 March 1998 (t1).", said[1])
+        self.assertIn("Also, the end of warned (ei2) is before the start of strike (ei3).", said[1])
+        self.assertIn("Nothing says when: planned (ei8), raised (ei9).", said[1])
+
+
+if __name__ == "__main__":
+    unittest.main()
