@@ -78,6 +78,13 @@ def timeline_picture(timeline: Timeline, paper: Paper, one_each: bool) -> bytes:
     return as_screen(figure) if paper.is_for_screen else FORMS[paper.form](figure)
 
 
+def placing_picture(timeline: Timeline, one_each: bool) -> bytes:
+    """The picture of a placing in seconds, for a screen."""
+    from . import of_placing
+
+    return as_screen(of_placing.figure_of(timeline, SCREEN.width, one_each))
+
+
 def clash_picture(program: Program, title: str, document: bytes, clash: PlacedClash, paper: Paper) -> bytes:
     """The picture of a clash."""
     if not clash.walk:

@@ -11,7 +11,7 @@ It states only what `timeline.known` holds, by these conventions, which its lege
 from __future__ import annotations
 
 import re
-from collections.abc import Collection, Sequence
+from collections.abc import Collection, Mapping, Sequence
 from dataclasses import dataclass, field, replace
 from itertools import pairwise
 
@@ -53,8 +53,11 @@ class Drawing:
 
     timeline: Timeline
     width: float
-    positions: Positions
-    rows: dict[int, Row]
+    places: Sequence[float]
+    """Where the places of the axis are."""
+
+    extents: Mapping[int, Extent]
+    rows: Mapping[int, Row]
     """The rows that are drawn, by the numbers of their intervals."""
 
     with_said: bool = False
@@ -62,10 +65,6 @@ class Drawing:
     behind: list[Shape] = field(default_factory=list)
     lines: list[Shape] = field(default_factory=list)
     front: list[Shape] = field(default_factory=list)
-
-    def extent(self, number: int) -> Extent:
-        """The bar of an interval."""
-        return self.positions.extent(self.timeline.known, number)
 
     def said(self, row: Row) -> str:
         """What is shown where a bar is pointed at."""
@@ -78,7 +77,8 @@ def figure_of(timeline: Timeline, width: float, *, one_each: bool = False, with_
     listed = set(known.listed)
     rows = {number: row for number, row in every.items() if number not in listed}
     names = names_of_dates([row for row in rows.values() if row.kind == "exact"])
-    drawing = Drawing(timeline, width, positions_of(timeline, rows, names, width), rows, with_said)
+    positions = positions_of(timeline, rows, names, width)
+    drawing = Drawing(timeline, width, positions.places, {number: positions.extent(known, number) for number in rows}, rows, with_said)
     top = put_dates(drawing, names)
     bottom = put_bars(drawing, top, one_each)
     put_places(drawing, every, top, bottom)
@@ -103,7 +103,7 @@ def described(timeline: Timeline, every: dict[int, Row]) -> str:
     return " ".join(said)
 
 
-def positions_of(timeline: Timeline, rows: dict[int, Row], names: dict[str, str], width: float) -> Positions:
+def positions_of(timeline: Timeline, rows: Mapping[int, Row], names: dict[str, str], width: float) -> Positions:
     """Where the places are, with a stretch before the first and after the last one if some bar reaches there."""
     known = timeline.known
     before = int(any(known.lower[2 * number] is None for number in rows))
@@ -129,7 +129,7 @@ class Dated:
         return names[self.row.name] if self.row is not None else self.gap
 
 
-def dates_of(timeline: Timeline, rows: dict[int, Row]) -> list[Dated]:
+def dates_of(timeline: Timeline, rows: Mapping[int, Row]) -> list[Dated]:
     """The exact dates that are on the axis, the longest ones first."""
     found = []
     for number, row in rows.items():
@@ -139,7 +139,7 @@ def dates_of(timeline: Timeline, rows: dict[int, Row]) -> list[Dated]:
     return sorted(found, key=lambda one: (one.start - one.end, one.start))
 
 
-def gaps_of(timeline: Timeline, rows: dict[int, Row], names: dict[str, str]) -> list[Dated]:
+def gaps_of(timeline: Timeline, rows: Mapping[int, Row], names: dict[str, str]) -> list[Dated]:
     """The stretches of the axis between dates that no date covers."""
     found: list[Dated] = []
     last: Dated | None = None
@@ -167,7 +167,7 @@ def short_month(found: re.Match[str]) -> str:
 
 def put_dates(drawing: Drawing, names: dict[str, str]) -> float:
     """The dates in lanes, the longest ones above, and the gaps of the calendar between them. Answers where the axis is."""
-    places = drawing.positions.places
+    places = drawing.places
     named = [*dates_of(drawing.timeline, drawing.rows), *gaps_of(drawing.timeline, drawing.rows, names)]
     stretches = [(places[one.start], places[one.end]) for one in named]
     texts = [placed_name(stretch, one.name(names), drawing.width) for stretch, one in zip(stretches, named, strict=True)]
@@ -215,7 +215,7 @@ def broken(x: float, y: float) -> list[Shape]:
 def put_places(drawing: Drawing, every: dict[int, Row], top: float, bottom: float) -> None:
     """An upright line for each place; that of a date is darker, and reaches up to it."""
     dated = {place for one in dates_of(drawing.timeline, drawing.rows) for place in (one.start, one.end)}
-    for place, (x, points) in enumerate(zip(drawing.positions.places, drawing.timeline.known.axis, strict=True)):
+    for place, (x, points) in enumerate(zip(drawing.places, drawing.timeline.known.axis, strict=True)):
         said = " ".join(f"{every[point // 2].name}{'+' if point % 2 else '-'}" for point in points)
         width, colour = (0.5, LIGHT) if place in dated else (0.35, PALE)
         drawing.behind.insert(0, Line(((x, top), (x, bottom)), width, colour, kind="place", points=said))
@@ -229,8 +229,8 @@ def put_bars(drawing: Drawing, top: float, one_each: bool) -> float:
         numbers = in_order(numbers, known.orders)
     extents, labels = [], []
     for number in numbers:
-        outer = drawing.extent(number).outer
-        text, begin = placed_label(drawing.extent(number), label_of(drawing.rows[number]), drawing.width)
+        outer = drawing.extents[number].outer
+        text, begin = placed_label(drawing.extents[number], label_of(drawing.rows[number]), drawing.width)
         labels.append((text, begin))
         extents.append((min(outer[0], begin) - 1, max(outer[1], begin + measured(text, LABEL)) + 1))
     places = {number: place for place, number in enumerate(numbers)}
@@ -289,7 +289,7 @@ def broadness(stretch: tuple[float, float]) -> float:
 
 def put_bar(drawing: Drawing, number: int, y: float, text: str, begin: float) -> None:
     """One bar: its outline, its solid part, its marks, and its label."""
-    row, extent = drawing.rows[number], drawing.extent(number)
+    row, extent = drawing.rows[number], drawing.extents[number]
     left, right = extent.outer
     filling = "unasserted" if row.unasserted else row.kind
     said = drawing.said(row)
@@ -370,15 +370,20 @@ def put_lines(figure: Figure, x: float, y: float, text: str, *, size: float = LA
     return y
 
 
+def kinds_in(figure: Figure) -> list[tuple[Shape, str]]:
+    """The kinds of bars that there are, each with a sign."""
+    kinds = {
+        one.filling: one.hollow for one in sorted(figure.shapes, key=lambda one: not getattr(one, "hollow", False)) if isinstance(one, Box)
+    }
+    return [(Box(0, -5, 9, 6, kind, hollow=kinds[kind]), said) for kind, said in KINDS.items() if kind in kinds]
+
+
 def put_legend(figure: Figure, drawing: Drawing, y: float) -> None:
     """What there is in the picture means in words; and how far down the picture reaches."""
     boxes = [one for one in figure.shapes if isinstance(one, Box)]
     kinds = {one.kind for one in figure.shapes if isinstance(one, Line)}
-    fillings = {(one.filling, one.hollow) for one in boxes}
-    items: list[tuple[Shape, str]] = [
-        (Box(0, -5, 9, 6, kind, hollow=(kind, False) not in fillings), said) for kind, said in KINDS.items() if kind in dict(fillings)
-    ]
-    if drawing.positions.places:
+    items = kinds_in(figure)
+    if drawing.places:
         said = "a start or an end. Each is before the next one to the right. Between two, place and width say nothing."
         items.append((Line(((4.5, -5), (4.5, 1)), 0.5, LIGHT), said))
     if any(one.filling != "exact" and not one.hollow for one in boxes):

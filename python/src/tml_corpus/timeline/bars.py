@@ -16,8 +16,7 @@ STYLE = (
     ".bar{fill:var(--known);stroke:var(--strong);stroke-width:1.2}.exact .bar{fill:var(--strong)}.within .bar{fill:url(#hatch)}"
     ".free .bar{fill:var(--paper);stroke-dasharray:4 2.5}.unasserted .bar{fill:var(--paper);stroke:var(--doubt);stroke-dasharray:2 1.5}"
     ".hollow{fill:var(--paper)}.frame{stroke:var(--doubt);stroke-width:1;fill:none}.mark{stroke:var(--strong);stroke-width:2}"
-    ".anywhere{stroke:var(--doubt);stroke-dasharray:1 5;fill:none}"
-    ".fade{stop-color:var(--strong)}.hatch-ground{fill:var(--paper)}.hatch-line{fill:var(--strong)}"
+    ".hatch-ground{fill:var(--paper)}.hatch-line{fill:var(--strong)}"
 )
 
 HATCH = element(
@@ -32,16 +31,8 @@ HATCH = element(
         patternUnits="userSpaceOnUse",
         patternTransform="rotate(45)",
     ),
-    *(
-        element(
-            "linearGradient",
-            *(element("stop", class_="fade", offset=offset, stop_opacity=opacity) for offset, opacity in enumerate(opacities)),
-            id=name,
-        )
-        for name, opacities in (("before", ("0", ".35")), ("after", (".35", "0")))
-    ),
 )
-"""The fillings of bars: of times within bounds, and of what fades before and after an interval."""
+"""The filling of bars of times within bounds."""
 
 
 def states_of(row: Row) -> str:
@@ -92,8 +83,3 @@ def bar(kind: str, x: float, y: float, width: float, height: float = BAR, called
     """A bar: events have round ends."""
     round_ends = number(min(height / 2, width / 2)) if kind == "event" else None
     return element("rect", class_=called, x=float(x), y=float(y), width=float(width), height=float(height), rx=round_ends)
-
-
-def anywhere(left: float, right: float, y: float) -> Markup:
-    """The line of an interval that may be anywhere."""
-    return element("path", class_="anywhere", d=f"M{number(left)} {number(y + ROW / 2)}H{number(right)}")
