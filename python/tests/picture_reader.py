@@ -43,6 +43,15 @@ class Bar:
         return self.name + ("-" if share < 1 / 3 else "+" if share > 2 / 3 else whole)
 
 
+def sides_of(group: ElementTree.Element) -> set[str]:
+    """The sides at which the frame of a bar is closed."""
+    frames = [path.attrib["d"] for path in group.iter(SVG + "path") if path.get("stroke") == "#595959"]
+    if not frames:
+        return {"left", "right"} if any(rect.get("stroke") for rect in group.iter(SVG + "rect")) else set()
+    found = {"left"} if re.match(r"M[\d.]+ [\d.]+H[\d.]+V", frames[0]) else set()
+    return found | ({"right"} if re.search(r"V[\d.]+$", frames[0]) else set())
+
+
 @dataclass
 class Picture:
     """What is seen in a picture: the places of its axis, its bars, its marks and lines, its list and its other texts."""
@@ -65,9 +74,10 @@ class Picture:
         found = cls(width, height)
         for group in root.iter(SVG + "g"):
             if "data-interval" in group.attrib:
-                rect = next(group.iter(SVG + "rect"))
+                rect, classes = next(group.iter(SVG + "rect")), tuple(group.attrib["class"].split(" "))
+                assert sides_of(group) == {"left", "right"} - {one.removeprefix("open-") for one in classes}
                 x, y, broad, high = (float(rect.attrib[key]) for key in ("x", "y", "width", "height"))
-                found.bars.append(Bar(group.attrib["data-interval"], x, x + broad, y, y + high, tuple(group.attrib["class"].split(" "))))
+                found.bars.append(Bar(group.attrib["data-interval"], x, x + broad, y, y + high, classes))
         for path in root.iter(SVG + "path"):
             found.see(path)
         for text in root.iter(SVG + "text"):

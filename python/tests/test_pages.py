@@ -3,6 +3,7 @@
 from __future__ import annotations
 
 import os
+import re
 import tempfile
 import unittest
 from collections import Counter
@@ -171,7 +172,7 @@ class Colours(unittest.TestCase):
         paired = {colour for pair in colours.PAIRS for colour in pair} | {"line"}
         self.assertEqual(set(colours.LIGHT), set(colours.DARK))
         self.assertEqual(set(colours.LIGHT), paired)
-        self.assertLessEqual(set(colours.NAMED.findall(STYLE)), paired)
+        self.assertLessEqual(set(re.findall(r"var\(--([a-z]+)\)", STYLE)), paired)
 
 
 if __name__ == "__main__":

@@ -157,6 +157,17 @@ class Stated(Pictures):
             self.assertEqual([kind for kind in KINDS if not found[kind]], [], form)
         self.assertGreater(decided, 1000)
 
+    def test_what_is_decided_is_exact(self) -> None:
+        tags = "".join(f'<EVENT eid="e{n}" class="STATE">w{n}</EVENT><MAKEINSTANCE eiid="i{n}" eventID="e{n}"/>' for n in range(12))
+        links = "".join(
+            f'<TLINK eventInstanceID="i{n}" relatedToEventInstance="i{n + 1}" relType="{"IBEFORE" if n % 3 else "BEFORE"}"/>'
+            for n in range(11)
+        )
+        picture = Picture.read(self.drawn(f"<TimeML>{tags}{links}</TimeML>", "84mm"))
+        self.assertEqual(sum(len(points) for _, points in picture.places), 24)
+        self.assertEqual([bar.classes for bar in picture.bars], [("full", "event")] * 12)
+        self.assertEqual((picture.lines, picture.marks, picture.listed), ([], [], {}))
+
     def stated(self, content: str, form: str, truth: Truth, number: int) -> list[Statement]:
         """The statements of a picture, all of which are so, and from which all follows that is known of two points."""
         named = re.findall(r"(?:eiid|tid)=\"(i\d+)\"", content)

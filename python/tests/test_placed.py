@@ -10,6 +10,7 @@ from random import Random
 from corpus import TML, CorpusTest, document, needed, needs_seconds, text_at
 from differential.documents import document_of
 from differential.lengths import draw_timed_net
+from picture_reader import Picture
 from reference.acceptance import Accepted, judge_document
 from reference.dates import Time
 from reference.lengths import limits_of
@@ -212,26 +213,23 @@ class Pictures(CorpusTest):
         return self.read_text(name)
 
     def test_dates_are_true_to_scale(self) -> None:
-        root = ElementTree.fromstring(self.drawn(bridge(), "d.svg").encode())
-        bars: dict[str, tuple[float, float]] = {}
-        for group in root.iter(SVG + "g"):
-            if group.get("class", "").startswith("row "):
-                [bar] = [rect for rect in group.iter(SVG + "rect") if rect.get("class") == "bar"]
-                name = "".join(needed(group.find(SVG + "text")).itertext()).rpartition("(")[2].rstrip(")")
-                bars[name] = float(bar.attrib["x"]), float(bar.attrib["width"])
+        self.drawn(bridge(), "d.svg")
+        found = [bar for bar in Picture.read(self.read_text("d.svg")).bars if bar.classes[0] == "full"]
+        bars = {bar.name: (bar.left, bar.right - bar.left) for bar in found}
         day = bars["t0"][1]
         self.assertAlmostEqual(bars["t4"][1], day, delta=0.2)
         self.assertAlmostEqual(bars["t2"][1], 2 * day, delta=0.3)
         self.assertAlmostEqual(bars["t0"][0] - bars["t1"][0], 3.5 * day, delta=0.4)
-        self.assertEqual(len([rect for rect in root.iter(SVG + "rect") if rect.get("class") == "before"]), 1)
+        hollow = [bar.name for bar in Picture.read(self.read_text("d.svg")).bars if bar.classes[0] == "hollow"]
+        self.assertEqual(len(hollow), 1)
 
-    def test_what_has_no_limit_fades_to_the_edges(self) -> None:
+    def test_what_has_no_limit_is_open(self) -> None:
         content = document(
             '<TIMEX3 tid="a" type="DATE" value="1998-01-08"/><TIMEX3 tid="b" type="SET"/><TLINK timeID="b" relatedToTime="a" '
             'relType="AFTER"/>'
         )
-        root = ElementTree.fromstring(self.drawn(content, "d.svg").encode())
-        self.assertGreaterEqual(len([rect for rect in root.iter(SVG + "rect") if rect.get("class") in ("before", "after")]), 1)
+        [bar] = [bar for bar in Picture.read(self.drawn(content, "d.svg")).bars if bar.classes[0] == "hollow"]
+        self.assertEqual((bar.name, bar.classes[2:]), ("b", ("open-right",)))
 
     def test_pages(self) -> None:
         root = ElementTree.fromstring(self.drawn(bridge(), "d.html").split("\n", 1)[1].encode())

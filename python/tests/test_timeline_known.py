@@ -6,7 +6,7 @@ import test_timeline
 from corpus import document, needs_matrix, needs_seconds
 from picture_reader import Picture
 from test_timeline import event, link
-from tml_corpus.document.around import Around, words_after, words_before
+from tml_corpus.document.around import words_after, words_before
 from tml_corpus.document.date_words import stretch
 
 
@@ -44,12 +44,6 @@ class Words(unittest.TestCase):
         self.assertEqual(words_after(". The port"), ".")
         self.assertEqual(words_after(" one two three four five six"), " one two three four five")
         self.assertEqual((words_before(""), words_after(" "), words_after("\u202ex\x01")), ("", "", "x\ufffd"))
-
-    def test_room(self) -> None:
-        whole = Around("one two three ", " four five.")
-        self.assertEqual(whole.fitted("x", 1000, 12), whole)
-        self.assertEqual(whole.fitted("x", 120, 12).sentence("x"), "\u2026 three x four \u2026")
-        self.assertEqual(whole.fitted("x", 1, 12).sentence("x"), "\u2026 x \u2026")
 
 
 @needs_matrix

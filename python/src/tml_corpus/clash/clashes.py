@@ -56,15 +56,10 @@ def verify_clash(program: Program, document: bytes, clash: Clash, kept: str | No
 
 def verify_timeline(program: Program, document: bytes, timeline: Reply) -> None:
     """Has `tml verify` judge a timeline that `tml solve` printed."""
-    verify_ranks(program, document, timeline.text, "the timeline of tml solve")
-
-
-def verify_ranks(program: Program, document: bytes, timeline: bytes, called: str) -> None:
-    """Has `tml verify` judge a timeline, whoever made it."""
-    judged = program.ask(["verify", "-"], document, timeline)
+    judged = program.ask(["verify", "-"], document, timeline.text)
     if judged.status != ACCEPTED or judged.text != b"verified timeline\n":
         said = judged.text.decode("utf-8", "replace").strip()
-        raise CannotRun(f"tml verify did not accept {called}: {said}")
+        raise CannotRun(f"tml verify did not accept the timeline of tml solve: {said}")
 
 
 def evidence_name(path: str) -> str:

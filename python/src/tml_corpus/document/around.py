@@ -9,7 +9,7 @@ from dataclasses import dataclass
 from tml.tags.profile import WRAPPERS
 from tml.tags.units import EMPTY, END, START, TEXT, Units
 
-from ..timeline.lettering import measured, plain
+from ..timeline.lettering import plain
 
 MOST_WORDS, REACH = 5, 200
 """How many words on each side are shown, and how many characters of them."""
@@ -28,22 +28,6 @@ class Around:
     def sentence(self, text: str) -> str:
         """The words with the text between them."""
         return f"{self.before}{text}{self.after}"
-
-    def fitted(self, text: str, room: float, size: float) -> Around:
-        """As many of the words as have room, the nearest ones."""
-        before, after = self.before.split(" "), self.after.split(" ")
-        found = self
-        while measured(found.sentence(text), size) > room and (len(before) > 1 or len(after) > 1):
-            longer = before if len(before) >= len(after) else after
-            longer.pop(0 if longer is before else -1)
-            found = Around(joined(before, self.before, "\u2026 ", ""), joined(after, self.after, "", " \u2026"))
-        return found
-
-
-def joined(words: list[str], whole: str, first: str, last: str) -> str:
-    """Words, with a sign on the side where some of the whole are left out."""
-    text = " ".join(words)
-    return text if text == whole else f"{first}{text}{last}"
 
 
 @dataclass(frozen=True)

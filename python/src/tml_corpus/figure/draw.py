@@ -3,7 +3,6 @@
 from __future__ import annotations
 
 import re
-from collections.abc import Callable, Mapping
 from dataclasses import dataclass
 
 from ..asking.program import CannotRun, Program
@@ -28,36 +27,23 @@ def width_of(text: str) -> float:
     return width
 
 
-def as_svg(figure: Figure) -> bytes:
-    """SVG."""
-    from .svg_form import svg
-
-    return svg(figure).encode("utf-8")
-
-
-def as_screen(figure: Figure) -> bytes:
-    """SVG for a screen."""
-    from .svg_form import on_screen
-
-    return on_screen(figure).encode("utf-8")
-
-
-def as_pdf(figure: Figure) -> bytes:
-    """PDF."""
-    from .pdf_form import pdf
-
-    return pdf(figure)
-
-
-def as_tex(figure: Figure) -> bytes:
-    """TeX."""
-    from .tikz_form import tikz
-
-    return tikz(figure).encode("utf-8")
-
-
-FORMS: Mapping[str, Callable[[Figure], bytes]] = {".svg": as_svg, ".pdf": as_pdf, ".tex": as_tex}
+FORMS = (".svg", ".pdf", ".tex")
 """The forms, by the end of the file's name."""
+
+
+def written(figure: Figure, form: str, is_for_screen: bool = False) -> bytes:
+    """A picture as a file of a form."""
+    if form == ".pdf":
+        from .pdf_form import pdf
+
+        return pdf(figure)
+    if form == ".tex":
+        from .tikz_form import tikz
+
+        return tikz(figure).encode("utf-8")
+    from .svg_form import on_screen, svg
+
+    return (on_screen if is_for_screen else svg)(figure).encode("utf-8")
 
 
 @dataclass(frozen=True)
@@ -75,7 +61,14 @@ SCREEN = Paper(".svg", 600.0, is_for_screen=True)
 def timeline_picture(timeline: Timeline, paper: Paper, one_each: bool) -> bytes:
     """The picture of a timeline, perhaps with a lane for each bar."""
     figure = of_timeline.figure_of(timeline, paper.width, one_each=one_each, with_said=paper.is_for_screen)
-    return as_screen(figure) if paper.is_for_screen else FORMS[paper.form](figure)
+    return written(figure, paper.form, paper.is_for_screen)
+
+
+def placing_picture(timeline: Timeline, one_each: bool) -> bytes:
+    """The picture of a placing in seconds, for a screen."""
+    from . import of_placing
+
+    return written(of_placing.figure_of(timeline, SCREEN.width, one_each), SCREEN.form, True)
 
 
 def clash_picture(program: Program, title: str, document: bytes, clash: PlacedClash, paper: Paper) -> bytes:
@@ -83,4 +76,4 @@ def clash_picture(program: Program, title: str, document: bytes, clash: PlacedCl
     if not clash.walk:
         raise CannotRun("tml printed no walk of this clash")
     wording = Wording(program, document)
-    return FORMS[paper.form](of_clash.figure_of(title, wording, steps_in_words(wording, clash.walk), paper.width))
+    return written(of_clash.figure_of(title, wording, steps_in_words(wording, clash.walk), paper.width), paper.form)

@@ -11,7 +11,7 @@ It states only what `timeline.known` holds, by these conventions, which its lege
 from __future__ import annotations
 
 import re
-from collections.abc import Collection, Sequence
+from collections.abc import Collection, Mapping, Sequence
 from dataclasses import dataclass, field, replace
 from itertools import pairwise
 
@@ -20,7 +20,7 @@ from ..timeline.extents import Extent, Positions
 from ..timeline.known import Order
 from ..timeline.lettering import fitted, in_lines, measured, plain
 from ..timeline.rows import NO_INTERVAL, Row, Timeline
-from ..timeline.sentences import called, named, order_said, place_called
+from ..timeline.sentences import named, order_said, place_called
 from .layout import packed, spread
 from .shapes import BLACK, GREY, LABEL, SMALL, Box, Figure, Line, Shape, Text
 
@@ -53,8 +53,11 @@ class Drawing:
 
     timeline: Timeline
     width: float
-    positions: Positions
-    rows: dict[int, Row]
+    places: Sequence[float]
+    """Where the places of the axis are."""
+
+    extents: Mapping[int, Extent]
+    rows: Mapping[int, Row]
     """The rows that are drawn, by the numbers of their intervals."""
 
     with_said: bool = False
@@ -62,10 +65,6 @@ class Drawing:
     behind: list[Shape] = field(default_factory=list)
     lines: list[Shape] = field(default_factory=list)
     front: list[Shape] = field(default_factory=list)
-
-    def extent(self, number: int) -> Extent:
-        """The bar of an interval."""
-        return self.positions.extent(self.timeline.known, number)
 
     def said(self, row: Row) -> str:
         """What is shown where a bar is pointed at."""
@@ -78,7 +77,8 @@ def figure_of(timeline: Timeline, width: float, *, one_each: bool = False, with_
     listed = set(known.listed)
     rows = {number: row for number, row in every.items() if number not in listed}
     names = names_of_dates([row for row in rows.values() if row.kind == "exact"])
-    drawing = Drawing(timeline, width, positions_of(timeline, rows, names, width), rows, with_said)
+    positions = positions_of(timeline, rows, names, width)
+    drawing = Drawing(timeline, width, positions.places, {number: positions.extent(known, number) for number in rows}, rows, with_said)
     top = put_dates(drawing, names)
     bottom = put_bars(drawing, top, one_each)
     put_places(drawing, every, top, bottom)
@@ -103,50 +103,46 @@ def described(timeline: Timeline, every: dict[int, Row]) -> str:
     return " ".join(said)
 
 
-def positions_of(timeline: Timeline, rows: dict[int, Row], names: dict[str, str], width: float) -> Positions:
+def positions_of(timeline: Timeline, rows: Mapping[int, Row], names: dict[str, str], width: float) -> Positions:
     """Where the places are, with a stretch before the first and after the last one if some bar reaches there."""
     known = timeline.known
     before = int(any(known.lower[2 * number] is None for number in rows))
     after = int(any(known.upper[2 * number + 1] is None for number in rows))
-    named = [*dates_of(timeline, rows), *gaps_of(timeline, rows, names)]
-    needs = [(before + one.start, before + one.end, measured(MONTH.sub(short_month, one.name(names)), LABEL) + 5) for one in named]
+    named = [*dates_of(timeline, rows, names), *gaps_of(timeline, rows, names)]
+    needs = [(before + one.start, before + one.end, measured(MONTH.sub(short_month, one.name), LABEL) + 5) for one in named]
     found = [EDGE + place for place in spread(needs, before + len(known.axis) + after, width - 2 * EDGE)]
     return Positions(found[before : before + len(known.axis)], EDGE, width - EDGE)
 
 
 @dataclass(frozen=True)
 class Dated:
-    """A stretch of the axis that has a name of the calendar: its first and last place, and its date, unless it is between two."""
+    """A stretch of the axis that has a name of the calendar: its first and last place, its name, and its date, unless it is between two."""
 
     start: int
     end: int
-    number: int | None
-    row: Row | None = None
-    gap: str = ""
-
-    def name(self, names: dict[str, str]) -> str:
-        """How it is called."""
-        return names[self.row.name] if self.row is not None else self.gap
+    name: str
+    number: int | None = None
 
 
-def dates_of(timeline: Timeline, rows: dict[int, Row]) -> list[Dated]:
+def dates_of(timeline: Timeline, rows: Mapping[int, Row], names: dict[str, str]) -> list[Dated]:
     """The exact dates that are on the axis, the longest ones first."""
     found = []
     for number, row in rows.items():
         start, end = timeline.known.place(2 * number), timeline.known.place(2 * number + 1)
         if row.kind == "exact" and start is not None and end is not None:
-            found.append(Dated(start, end, number, row))
+            found.append(Dated(start, end, names[row.name], number))
     return sorted(found, key=lambda one: (one.start - one.end, one.start))
 
 
-def gaps_of(timeline: Timeline, rows: dict[int, Row], names: dict[str, str]) -> list[Dated]:
+def gaps_of(timeline: Timeline, rows: Mapping[int, Row], names: dict[str, str]) -> list[Dated]:
     """The stretches of the axis between dates that no date covers."""
     found: list[Dated] = []
-    last: Dated | None = None
-    for one in sorted(dates_of(timeline, rows), key=lambda one: one.start):
-        if last is not None and last.row and one.row and last.end < one.start:
-            found.append(Dated(last.end, one.start, None, gap=between_dates(last.row, one.row, names)))
-        last = one if last is None or one.end > last.end else last
+    end, last = len(timeline.known.axis), -1
+    for one in sorted(dates_of(timeline, rows, names), key=lambda one: one.start):
+        assert one.number is not None
+        if end < one.start:
+            found.append(Dated(end, one.start, between_dates(rows[last], rows[one.number], names)))
+        end, last = (one.end, one.number) if last < 0 or one.end > end else (end, last)
     return found
 
 
@@ -167,22 +163,23 @@ def short_month(found: re.Match[str]) -> str:
 
 def put_dates(drawing: Drawing, names: dict[str, str]) -> float:
     """The dates in lanes, the longest ones above, and the gaps of the calendar between them. Answers where the axis is."""
-    places = drawing.positions.places
-    named = [*dates_of(drawing.timeline, drawing.rows), *gaps_of(drawing.timeline, drawing.rows, names)]
+    places = drawing.places
+    named = [*dates_of(drawing.timeline, drawing.rows, names), *gaps_of(drawing.timeline, drawing.rows, names)]
     stretches = [(places[one.start], places[one.end]) for one in named]
-    texts = [placed_name(stretch, one.name(names), drawing.width) for stretch, one in zip(stretches, named, strict=True)]
+    texts = [placed_name(stretch, one.name, drawing.width) for stretch, one in zip(stretches, named, strict=True)]
     lanes = packed(
         [(min(begin, x), max(begin + measured(text, LABEL), right)) for (x, right), (text, begin) in zip(stretches, texts, strict=True)]
     )
     axis = EDGE + (max(lanes, default=-1) + 1) * BAND + 2
     for one, lane, (x, right), (text, begin) in zip(named, lanes, stretches, texts, strict=True):
         y = EDGE + lane * BAND
-        if one.number is not None and one.row is not None:
-            drawing.bars[one.number] = Box(x, y, right - x, BAND, "exact", name=one.row.name, said=drawing.said(one.row))
+        if one.number is not None:
+            row = drawing.rows[one.number]
+            drawing.bars[one.number] = Box(x, y, right - x, BAND, "exact", name=row.name, said=drawing.said(row))
             drawing.front.append(drawing.bars[one.number])
         else:
             drawing.front += broken((x + right) / 2, axis)
-        drawing.front.append(Text(begin, y + 7.3, text, LABEL, colour=GREY if one.row is None else BLACK))
+        drawing.front.append(Text(begin, y + 7.3, text, LABEL, colour=GREY if one.number is None else BLACK))
     if places:
         drawing.behind.append(Line(((EDGE, axis), (drawing.width - EDGE, axis)), 0.6, arrow=True))
     return axis
@@ -214,8 +211,9 @@ def broken(x: float, y: float) -> list[Shape]:
 
 def put_places(drawing: Drawing, every: dict[int, Row], top: float, bottom: float) -> None:
     """An upright line for each place; that of a date is darker, and reaches up to it."""
-    dated = {place for one in dates_of(drawing.timeline, drawing.rows) for place in (one.start, one.end)}
-    for place, (x, points) in enumerate(zip(drawing.positions.places, drawing.timeline.known.axis, strict=True)):
+    dates = [number for number, bar in drawing.bars.items() if bar.filling == "exact"]
+    dated = {drawing.timeline.known.place(point) for number in dates for point in (2 * number, 2 * number + 1)}
+    for place, (x, points) in enumerate(zip(drawing.places, drawing.timeline.known.axis, strict=True)):
         said = " ".join(f"{every[point // 2].name}{'+' if point % 2 else '-'}" for point in points)
         width, colour = (0.5, LIGHT) if place in dated else (0.35, PALE)
         drawing.behind.insert(0, Line(((x, top), (x, bottom)), width, colour, kind="place", points=said))
@@ -229,8 +227,8 @@ def put_bars(drawing: Drawing, top: float, one_each: bool) -> float:
         numbers = in_order(numbers, known.orders)
     extents, labels = [], []
     for number in numbers:
-        outer = drawing.extent(number).outer
-        text, begin = placed_label(drawing.extent(number), label_of(drawing.rows[number]), drawing.width)
+        outer = drawing.extents[number].outer
+        text, begin = placed_label(drawing.extents[number], plain(drawing.rows[number].text) or drawing.rows[number].name, drawing.width)
         labels.append((text, begin))
         extents.append((min(outer[0], begin) - 1, max(outer[1], begin + measured(text, LABEL)) + 1))
     places = {number: place for place, number in enumerate(numbers)}
@@ -263,18 +261,13 @@ def is_whole(order: Order) -> bool:
     return order.first % 2 == 1 and order.second % 2 == 0
 
 
-def label_of(row: Row) -> str:
-    """The text of a row, or its name where it has none."""
-    return called(replace(row, kind="event"))
-
-
 def placed_label(extent: Extent, label: str, width: float) -> tuple[str, float]:
     """A label and where it begins: in the broadest part of the bar, or in the whole, or next to it, or at the edge of the picture."""
     begin, end = extent.outer
     text = fitted(label, max(end - begin - 2, width / 3), LABEL)
     broad = measured(text, LABEL)
     cuts = sorted({begin, end, *(extent.solid or ()), *(x for x in (extent.begun, extent.not_ended) if x is not None)})
-    for left, right in (max(pairwise(cuts), key=broadness), (begin, end)):
+    for left, right in (max((right - left, left, right) for left, right in pairwise(cuts))[1:], (begin, end)):
         if broad + 3 <= right - left:
             return text, (left + right - broad) / 2
     if end + 2 + broad <= width - EDGE:
@@ -282,14 +275,9 @@ def placed_label(extent: Extent, label: str, width: float) -> tuple[str, float]:
     return text, begin - 2 - broad if begin - 2 - broad >= EDGE else width - EDGE - broad
 
 
-def broadness(stretch: tuple[float, float]) -> float:
-    """How broad a stretch is."""
-    return stretch[1] - stretch[0]
-
-
 def put_bar(drawing: Drawing, number: int, y: float, text: str, begin: float) -> None:
     """One bar: its outline, its solid part, its marks, and its label."""
-    row, extent = drawing.rows[number], drawing.extent(number)
+    row, extent = drawing.rows[number], drawing.extents[number]
     left, right = extent.outer
     filling = "unasserted" if row.unasserted else row.kind
     said = drawing.said(row)
@@ -370,28 +358,37 @@ def put_lines(figure: Figure, x: float, y: float, text: str, *, size: float = LA
     return y
 
 
+def kinds_in(figure: Figure) -> list[tuple[Shape, str]]:
+    """The kinds of bars that there are, each with a sign."""
+    kinds = {
+        one.filling: one.hollow for one in sorted(figure.shapes, key=lambda one: not getattr(one, "hollow", False)) if isinstance(one, Box)
+    }
+    return [(Box(0, -5, 9, 6, kind, hollow=kinds[kind]), said) for kind, said in KINDS.items() if kind in kinds]
+
+
 def put_legend(figure: Figure, drawing: Drawing, y: float) -> None:
     """What there is in the picture means in words; and how far down the picture reaches."""
     boxes = [one for one in figure.shapes if isinstance(one, Box)]
     kinds = {one.kind for one in figure.shapes if isinstance(one, Line)}
-    fillings = {(one.filling, one.hollow) for one in boxes}
-    items: list[tuple[Shape, str]] = [
-        (Box(0, -5, 9, 6, kind, hollow=(kind, False) not in fillings), said) for kind, said in KINDS.items() if kind in dict(fillings)
-    ]
-    if drawing.positions.places:
-        said = "a start or an end. Each is before the next one to the right. Between two, place and width say nothing."
-        items.append((Line(((4.5, -5), (4.5, 1)), 0.5, LIGHT), said))
-    if any(one.filling != "exact" and not one.hollow for one in boxes):
-        items.append((Box(0, -5, 9, 6, "event"), "full: it lasts here in any case."))
-    if any(one.hollow for one in boxes):
-        said = "hollow: it may last here, and not beyond. If it stops short of a line it does not reach that; if it touches it, it may."
-        items.append((Box(0, -5, 9, 6, "event", hollow=True), said))
-    if any(any(one.is_open) for one in boxes):
-        items.append((Box(0, -5, 9, 6, "event", hollow=True, is_open=(False, True)), "open: nothing limits it on this side."))
-    if "begun" in kinds:
-        items.append((Line(((4.5, -5), (4.5, -1)), 1.4), "mark at the top of a bar: it has begun here in any case."))
-    if "not-ended" in kinds:
-        items.append((Line(((4.5, -3), (4.5, 1)), 1.4), "mark at the foot of a bar: it has not ended here in any case."))
+    full = any(one.filling != "exact" and not one.hollow for one in boxes)
+    short = "If it stops short of a line it does not reach that; if it touches it, it may."
+    table: tuple[tuple[bool, Shape, str], ...] = (
+        (
+            bool(drawing.places),
+            Line(((4.5, -5), (4.5, 1)), 0.5, LIGHT),
+            "a start or an end. Each is before the next one to the right. Between two, place and width say nothing.",
+        ),
+        (full, Box(0, -5, 9, 6, "event"), "full: it lasts here in any case."),
+        (any(one.hollow for one in boxes), Box(0, -5, 9, 6, "event", hollow=True), f"hollow: it may last here, and not beyond. {short}"),
+        (
+            any(any(one.is_open) for one in boxes),
+            Box(0, -5, 9, 6, "event", hollow=True, is_open=(False, True)),
+            "open: nothing limits it on this side.",
+        ),
+        ("begun" in kinds, Line(((4.5, -5), (4.5, -1)), 1.4), "mark at the top of a bar: it has begun here in any case."),
+        ("not-ended" in kinds, Line(((4.5, -3), (4.5, 1)), 1.4), "mark at the foot of a bar: it has not ended here in any case."),
+    )
+    items = kinds_in(figure) + [(sign, said) for is_there, sign, said in table if is_there]
     where = "A line meets a bar in its left third for its start, in its right third for its end; "
     where += "from middle to middle it leads from an end to a start."
     for sign, said in (("<", "before."), ("≤", "before, or at the same time."), ("=", "at the same time.")):

@@ -2,8 +2,6 @@
 
 from __future__ import annotations
 
-import re
-
 LIGHT = {
     "paper": "#ffffff",
     "odd": "#eef1f4",
@@ -49,15 +47,8 @@ PAIRS = tuple(
 )
 """Which colours stand on which. Lines that part things and carry no meaning are not among them."""
 
-NAMED = re.compile(r"var\(--([a-z]+)\)")
-
 
 def variables() -> str:
     """The colours by their names, as a style begins."""
     light, dark = ("".join(f"--{name}:{colour};" for name, colour in colours.items()) for colours in (LIGHT, DARK))
     return f":root{{color-scheme:light dark;{light}}}\n@media screen and (prefers-color-scheme:dark){{:root{{{dark}}}}}\n"
-
-
-def in_light(style: str) -> str:
-    """A style with the colours in the place of their names, for programs that know no variables."""
-    return NAMED.sub(lambda found: LIGHT[found[1]], style)

@@ -13,35 +13,10 @@ ROW, BAR, THIN, GAP = 22, 12, 5, 16
 """The heights of a row, of a bar, and of the bar of an event that is not asserted; and what is left free."""
 
 STYLE = (
-    ".bar{fill:var(--known);stroke:var(--strong);stroke-width:1.2}.exact .bar{fill:var(--strong)}.within .bar{fill:url(#hatch)}"
+    ".bar{fill:var(--known);stroke:var(--strong);stroke-width:1.2}.exact .bar{fill:var(--strong)}.within .bar{fill-opacity:.45}"
     ".free .bar{fill:var(--paper);stroke-dasharray:4 2.5}.unasserted .bar{fill:var(--paper);stroke:var(--doubt);stroke-dasharray:2 1.5}"
     ".hollow{fill:var(--paper)}.frame{stroke:var(--doubt);stroke-width:1;fill:none}.mark{stroke:var(--strong);stroke-width:2}"
-    ".anywhere{stroke:var(--doubt);stroke-dasharray:1 5;fill:none}"
-    ".fade{stop-color:var(--strong)}.hatch-ground{fill:var(--paper)}.hatch-line{fill:var(--strong)}"
 )
-
-HATCH = element(
-    "defs",
-    element(
-        "pattern",
-        element("rect", class_="hatch-ground", width=5, height=5),
-        element("rect", class_="hatch-line", width=2, height=5),
-        id="hatch",
-        width=5,
-        height=5,
-        patternUnits="userSpaceOnUse",
-        patternTransform="rotate(45)",
-    ),
-    *(
-        element(
-            "linearGradient",
-            *(element("stop", class_="fade", offset=offset, stop_opacity=opacity) for offset, opacity in enumerate(opacities)),
-            id=name,
-        )
-        for name, opacities in (("before", ("0", ".35")), ("after", (".35", "0")))
-    ),
-)
-"""The fillings of bars: of times within bounds, and of what fades before and after an interval."""
 
 
 def states_of(row: Row) -> str:
@@ -58,8 +33,7 @@ def kinds_of(timeline: Timeline) -> list[tuple[str, str]]:
 
 def sign(kind: str, x: float, middle: float) -> Markup:
     """The sign of a kind of bars."""
-    height = THIN if kind.endswith("unasserted") else BAR
-    return bar(kind.split(" ", 1)[0], x, middle - height / 2, 28, height)
+    return bar(kind.split(" ", 1)[0], x, middle, 28, kind.endswith("unasserted"))
 
 
 def drawn_extent(row: Row, extent: Extent, y: float) -> list[Markup]:
@@ -75,25 +49,15 @@ def drawn_extent(row: Row, extent: Extent, y: float) -> list[Markup]:
         parts.append(element("rect", class_="hollow", x=left, y=float(top), width=right - left, height=BAR))
         parts.append(element("path", class_="frame", d=frame))
     if extent.solid is not None:
-        parts.append(bar_of(row, extent.solid[0], y, extent.solid[1] - extent.solid[0]))
+        parts.append(bar(row.kind, extent.solid[0], y + ROW / 2, extent.solid[1] - extent.solid[0], bool(row.unasserted)))
     for x, from_y, to_y in ((extent.begun, top, top + 4), (extent.not_ended, bottom, bottom - 4)):
         if x is not None:
             parts.append(element("path", class_="mark", d=f"M{number(x)} {number(from_y)}V{number(to_y)}"))
     return parts
 
 
-def bar_of(row: Row, x: float, y: float, width: float, called: str = "bar") -> Markup:
-    """The bar of a row that begins at a height; that of an event which is not asserted is thin."""
-    height = THIN if row.unasserted else BAR
-    return bar(row.kind, x, y + (ROW - height) / 2, width, height, called)
-
-
-def bar(kind: str, x: float, y: float, width: float, height: float = BAR, called: str = "bar") -> Markup:
-    """A bar: events have round ends."""
+def bar(kind: str, x: float, middle: float, width: float, is_thin: bool) -> Markup:
+    """A bar at a height: events have round ends, and those that are not asserted are thin."""
+    height = THIN if is_thin else BAR
     round_ends = number(min(height / 2, width / 2)) if kind == "event" else None
-    return element("rect", class_=called, x=float(x), y=float(y), width=float(width), height=float(height), rx=round_ends)
-
-
-def anywhere(left: float, right: float, y: float) -> Markup:
-    """The line of an interval that may be anywhere."""
-    return element("path", class_="anywhere", d=f"M{number(left)} {number(y + ROW / 2)}H{number(right)}")
+    return element("rect", class_="bar", x=float(x), y=float(middle - height / 2), width=float(width), height=float(height), rx=round_ends)

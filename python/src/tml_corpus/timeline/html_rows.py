@@ -7,7 +7,7 @@ from collections.abc import Callable, Sequence
 from tml.markup import NOTHING, Markup, Value, element, lined, together
 
 from . import bars, plot
-from .bars import HATCH, ROW, kinds_of, sign, states_of
+from .bars import ROW, kinds_of, sign, states_of
 from .lettering import plain
 from .plot import LANE, Band, Plot, drawn_bands, lanes_of, right_of, upright
 from .rows import APART, NO_INTERVAL, Row, Timeline
@@ -63,7 +63,7 @@ def in_rows(timeline: Timeline, axis: Plot, name: str, attributes_of: Callable[[
     rows = [drawn_row(row, axis, width, name, attributes_of(place, row)) for place, row in enumerate(timeline.rows)]
     tied, others = rows[: timeline.tied()], rows[timeline.tied() :]
     parts = [
-        drawn_axis(axis, dates, width) if tied else element("svg", HATCH, width=0, height=0, aria_hidden="true"),
+        drawn_axis(axis, dates, width) if tied else NOTHING,
         block(tied, "Intervals in their order"),
         element("p", APART, class_="apart") if others else NOTHING,
         block(others, "Intervals whose order is not known"),
@@ -80,8 +80,8 @@ def drawn_axis(axis: Plot, dates: Sequence[Band], width: float) -> Markup:
     """What stands above all rows: the dates, and the marks."""
     high = LANE * lanes_of(dates) + 20
     behind = element("pattern", upright(axis, dates, 0, ROW), id="lines", width=width, height=ROW, patternUnits="userSpaceOnUse")
-    marks = [element("text", text, class_="number", x=x, y=float(high - 5)) for x, text in axis.marks()]
-    content = together(HATCH, element("defs", behind), drawn_bands(dates, high - 18), marks)
+    marks = [element("text", text, class_="number", x=x, y=float(high - 5)) for x, text in axis.marks() if text]
+    content = together(element("defs", behind), drawn_bands(dates, high - 18), marks)
     corner = element("span", class_="corner")
     return element("div", corner, element("svg", content, width=width, height=float(high), aria_hidden="true"), class_="head")
 

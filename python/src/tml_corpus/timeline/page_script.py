@@ -27,7 +27,7 @@ over.append(arrow, drawn);
 const inner = document.querySelector(".inner");
 if (inner) inner.append(over);
 const anchor = (place) => {
-  const bar = rows[place].querySelector(".bar");
+  const bar = rows[place].querySelector(".bar") || rows[place].querySelector(".hollow");
   if (!bar) return null;
   const [box, frame] = [rows[place].querySelector(".bars"), inner].map((one) => one.getBoundingClientRect());
   const number = (name) => Number(bar.getAttribute(name));

@@ -3,24 +3,28 @@
 from __future__ import annotations
 
 from collections.abc import Sequence
-from dataclasses import dataclass
-from typing import Protocol
+from dataclasses import dataclass, replace
+from typing import TYPE_CHECKING, TypeAlias
 
 from tml.markup import Markup, element, lined, number, together
 
+from ..figure.layout import packed
 from .bars import GAP, drawn_extent
 from .extents import Positions
 from .lettering import measured
 from .rows import Row, Timeline
 
+if TYPE_CHECKING:
+    from .scaled import Seconds
+
 SMALL = 12
 PLOT, WIDEST_STEP, NARROWEST_STEP = 720, 30, 4
-"""The ranks together are about so broad, and each of them between so much."""
+"""An axis is about so broad, and two places at most and at least so far apart."""
 
 LANE, MOST_LANES = 18, 3
 """The height of a line of dates above the axis, and how many of these there are at most."""
 
-STYLE = ".grid{stroke:var(--line);fill:none}.axis{stroke:var(--ink);fill:none}.edge{stroke:var(--doubt);stroke-dasharray:2 3;fill:none}"
+STYLE = ".grid{stroke:var(--line);fill:none}.edge{stroke:var(--doubt);stroke-dasharray:2 3;fill:none}"
 STYLE += ".band{stroke:var(--strong);stroke-width:3;fill:none}"
 
 
@@ -34,28 +38,8 @@ class Band:
     lane: int = 0
 
 
-class Plot(Protocol):
-    """An axis with its bars."""
-
-    @property
-    def caption(self) -> str:
-        """What it means."""
-
-    @property
-    def title(self) -> str:
-        """What the picture is, up to the name of the document."""
-
-    def ends(self) -> tuple[float, float]:
-        """Where the axis begins and ends."""
-
-    def marks(self) -> list[tuple[float, str]]:
-        """Where something stands at the axis, and what."""
-
-    def bands(self) -> list[Band]:
-        """The dates above it."""
-
-    def bars(self, row: Row, y: float) -> list[Markup]:
-        """The bar of a row that begins at a height."""
+Plot: TypeAlias = "Chain | Seconds"
+"""An axis with its bars."""
 
 
 @dataclass(frozen=True)
@@ -106,14 +90,8 @@ class Chain:
 
 def in_lanes(bands: Sequence[Band]) -> list[Band]:
     """Dates in as few lanes as have room for their names; those for which there is none in any are left out."""
-    free = [0.0] * MOST_LANES
-    found = []
-    for band in bands:
-        lane = next((lane for lane, begin in enumerate(free) if begin <= band.left), None)
-        if lane is not None:
-            found.append(Band(band.left, band.right, band.text, lane))
-            free[lane] = max(band.right, band.left + measured(band.text, SMALL) + GAP / 2)
-    return found
+    lanes = packed([(band.left, max(band.right, band.left + measured(band.text, SMALL) + GAP / 2)) for band in bands])
+    return [replace(band, lane=lane) for band, lane in zip(bands, lanes, strict=True) if lane < MOST_LANES]
 
 
 def lanes_of(bands: Sequence[Band]) -> int:

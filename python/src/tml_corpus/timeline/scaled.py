@@ -4,15 +4,15 @@ from __future__ import annotations
 
 from dataclasses import dataclass, fields, replace
 
-from tml.markup import Markup, element
+from tml.markup import Markup
 
 from ..seconds.civil import civil, length
 from ..seconds.formats import span
 from ..seconds.placed import Placed, PlacedInterval
 from .axis import extent, marks
-from .bars import BAR, ROW, anywhere, bar_of
+from .bars import drawn_extent
+from .extents import Extent
 from .lettering import measured
-from .picture import picture
 from .plot import PLOT, SMALL, Band
 from .rows import NOT_KNOWN, Row, Timeline
 
@@ -47,70 +47,62 @@ class Seconds:
     title: str = "Placing of "
     caption: str = (
         "An axis of time in whole seconds. Bars stand where tml seconds placed them and tml confirm confirmed it: all links, dates and "
-        "lengths are met. Where an interval can start earlier or end later its end fades, as far as that goes; to the edge, where there "
-        "is no limit or it is farther."
+        "lengths are met. Where an interval can start earlier or end later its bar is hollow, as far as that goes; it is open at a side "
+        "without a limit."
     )
+    width: float = PLOT
 
     @classmethod
-    def of(cls, timeline: Timeline, left: float) -> Seconds:
-        """The axis that a placing needs."""
+    def of(cls, timeline: Timeline, left: float, width: float = PLOT) -> Seconds:
+        """The axis that a placing needs, which begins at a position and is so broad."""
         first, last = extent([second for row in timeline.rows if row.is_tied for second in (row.start, row.finish)] or [0])
-        return cls(left, first, last)
+        return cls(left, first, last, width=width)
 
     def x(self, second: int) -> float:
         """Where a second stands; one beyond an edge at that edge."""
         inside = min(max(second, self.first), self.last)
-        return self.left + (inside - self.first) * PLOT / (self.last - self.first)
+        return self.left + (inside - self.first) * self.width / (self.last - self.first)
 
     def ends(self) -> tuple[float, float]:
         """Where the axis begins and ends."""
-        return self.left, self.left + PLOT
+        return self.left, self.left + self.width
 
     def marks(self) -> list[tuple[float, str]]:
         """The marks of the axis, as many as have room."""
-        most = int(PLOT // (measured("0000-00-00 ", SMALL) + 8))
+        most = int(self.width // (measured("0000-00-00 ", SMALL) + 8))
         return [(self.x(mark.second), mark.text) for mark in marks(self.first, self.last, most)]
 
     def bands(self) -> list[Band]:
         """No dates beside those of the axis itself."""
         return []
 
-    def bars(self, row: Row, y: float) -> list[Markup]:
-        """The bar of a row with what fades beside it."""
-        if not row.is_tied:
-            return [anywhere(*self.ends(), y)]
+    def extent(self, row: Row) -> Extent:
+        """The bar of a row: solid where it is placed, and hollow where it can be too."""
         start, finish = self.x(row.start), self.x(row.finish)
-        fading = self.faded(row, y + (ROW - BAR) / 2) if isinstance(row, ScaledRow) else []
-        return [*fading, bar_of(row, start, y, max(finish - start, NARROWEST_BAR))]
+        solid = start, max(finish, start + NARROWEST_BAR)
+        earliest, latest = (row.starts[0], row.ends[1]) if isinstance(row, ScaledRow) else (row.start, row.finish)
+        left = self.ends()[0] if earliest is None else self.x(earliest)
+        right = self.ends()[1] if latest is None else self.x(latest)
+        # What is shorter than a point is not seen.
+        outer = left if left < solid[0] - 1 else solid[0], right if right > solid[1] + 1 else solid[1]
+        return Extent(outer, (earliest is None, latest is None), solid)
 
-    def faded(self, row: ScaledRow, y: float) -> list[Markup]:
-        """What fades before a bar that can start earlier, and after one that can end later."""
-        earliest, latest = row.starts[0], row.ends[1]
-        left = self.x(self.first if earliest is None else earliest)
-        right = self.x(self.last if latest is None else latest)
-        parts = [("before", left, self.x(row.start)), ("after", self.x(row.finish), right)]
-        return [
-            element("rect", class_=name, fill=f"url(#{name})", x=float(begin), y=float(y), width=float(end - begin), height=BAR)
-            for name, begin, end in parts
-            if end - begin >= 1
-        ]
+    def bars(self, row: Row, y: float) -> list[Markup]:
+        """The bar of a row, if something ties it."""
+        return drawn_extent(row, self.extent(row), y) if row.is_tied else []
 
 
-def scaled_row(row: Row, one: PlacedInterval) -> Row:
+def scaled_row(row: Row, one: PlacedInterval, is_tied: bool) -> Row:
     """A row with how far it can move."""
-    return ScaledRow(**{field.name: getattr(row, field.name) for field in fields(Row)}, starts=one.starts, ends=one.ends)
+    tied = replace(row, is_tied=is_tied)
+    return ScaledRow(**{field.name: getattr(tied, field.name) for field in fields(Row)}, starts=one.starts, ends=one.ends)
 
 
 def with_ranges(timeline: Timeline, found: Placed) -> Timeline:
-    """The rows with how far each can move."""
-    intervals = dict(zip(found.order, found.intervals, strict=True))
-    rows = [scaled_row(row, intervals[number]) for row, number in zip(timeline.rows, timeline.order, strict=True)]
-    return replace(timeline, rows=rows)
-
-
-def scaled_svg(timeline: Timeline) -> str:
-    """The picture as a file of its own."""
-    return picture(timeline, Seconds.of)
+    """The rows with how far each can move; listed are only those without any order."""
+    intervals, untied = dict(zip(found.order, found.intervals, strict=True)), timeline.known.untied()
+    rows = [scaled_row(row, intervals[number], number not in untied) for row, number in zip(timeline.rows, timeline.order, strict=True)]
+    return replace(timeline, rows=rows, known=replace(timeline.known, listed=sorted(untied), orders=[]))
 
 
 def scaled_page(timeline: Timeline) -> str:

@@ -22,7 +22,7 @@ from ..document.around import Around, Text, text_around
 from ..document.asserted import AssertedCopy, asserted_copy, unasserted
 from ..document.words import Wording
 from ..figure.draw import FORMS as BARE_FORMS
-from ..figure.draw import SCREEN, Paper, clash_picture, timeline_picture
+from ..figure.draw import SCREEN, Paper, clash_picture, placing_picture, timeline_picture
 from ..files.finding import CannotRead, counted, read_document, shown
 from ..files.replacing import replace_file
 from ..matrix.orders import PointOrders, base_relation
@@ -109,14 +109,14 @@ def draw_placing(program: Program, path: str, target: str, choices: Choices) -> 
     return Drawn(change_lines(path, found) + drawn_line(path, target, f"{found.counts()}, in seconds", copy), Status.SUCCESS, picture)
 
 
-def picture_of_placing(program: Program, path: str, target: str, found: Placed, choices: Choices) -> str:
+def picture_of_placing(program: Program, path: str, target: str, found: Placed, choices: Choices) -> str | bytes:
     """The picture of a placing."""
-    from .scaled import scaled_page, scaled_svg, with_ranges
+    from .scaled import scaled_page, with_ranges
 
     seconds = dict(zip(found.order, ((one.start, one.end) for one in found.intervals), strict=True))
     ranks = [seconds[number] for number in range(len(seconds))]
     timeline = with_ranges(timeline_of(program, os.path.basename(path), found.wording, ranks, choices), found)
-    return scaled_svg(timeline) if form_of(target) == ".svg" else scaled_page(timeline)
+    return scaled_page(timeline) if form_of(target) in PAGES else placing_picture(timeline, choices.in_text_order)
 
 
 def draw_document(program: Program, path: str, document: bytes, target: str, choices: Choices) -> Drawn:
