@@ -206,7 +206,7 @@ def capped(name: str, order: Callable[[int], Sequence[int]]) -> Callable[[int], 
 
 
 def overlapping(size: int) -> Case:
-    """A long duration, and a chain of longer and longer ones that overlap, by turns, of which the last one ends it."""
+    """A long duration, and a chain of longer and longer ones that overlap, by turns. The last one ends it."""
     order = by_turns(size - 1)
     some = [f'type="DURATION" value="PT{10 + one}S"' for one in range(size - 1)]
     links = [*chain("OVERLAPPED_BY", order), (size - 1, "ENDED_BY", order[0])]
