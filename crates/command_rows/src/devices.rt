@@ -16,9 +16,9 @@ impl Devices {
     /// Devices that never fail, and have room for a million bytes.
     pub fn new(alloc: Global) -> Devices {
         Devices {
-            reads_of: 4096,
+            reads_of: 4_096,
             failing_reads: Vec::new(alloc),
-            writes_of: 4096,
+            writes_of: 4_096,
             failing_writes: Vec::new(alloc),
             room: 1_048_576,
         }
