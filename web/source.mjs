@@ -1,0 +1,174 @@
+// A document that tml accepts: its tags as `tml spans` cuts it, its intervals and links as `tml check` names them, and its texts.
+import { Places, textOf } from "./places.mjs";
+
+const IDENTIFIERS = { EVENT: "eid", MAKEINSTANCE: "eiid", TIMEX3: "tid", TLINK: "lid" };
+const UNIT = /^(\d+) (\d+) (\w+)(?: (.*))?$/gm;
+const ENTITIES = { lt: "<", gt: ">", amp: "&", quot: '"', apos: "'" };
+const LONGEST = 40;
+const AROUND = 240;
+const SHORT = 6000;
+const MOST_SHOWN = 24000;
+
+/** A text on one line, and cut if it is long. */
+export function cut(text, longest = LONGEST) {
+  const characters = Array.from(text.replace(/\s+/g, " ").trim().slice(0, 4 * longest));
+  return characters.length > longest ? `${characters.slice(0, longest - 1).join("")}…` : characters.join("");
+}
+
+/** A text without its references. */
+function unescaped(text) {
+  return text.replace(/&(?:#x([0-9a-fA-F]+)|#(\d+)|(lt|gt|amp|quot|apos));/g, (whole, hexadecimal, decimal, name) => {
+    if (name) return ENTITIES[name];
+    const code = hexadecimal ? parseInt(hexadecimal, 16) : parseInt(decimal, 10);
+    return code <= 0x10ffff && (code < 0xd800 || code > 0xdfff) ? String.fromCodePoint(code) : "\ufffd";
+  });
+}
+
+/** A document with its tags, and what its intervals and links are called. */
+export class Source {
+  #bytes;
+  #tags = [];
+  #starts = [];
+  #ends = [];
+  #owners = [];
+  #open = [];
+  #last = null;
+  #instances = new Map();
+  #events = new Map();
+
+  /** Of the bytes of a document, and what tml prints for `spans` and `check`. */
+  constructor(bytes, spans, check) {
+    this.#bytes = bytes;
+    this.places = new Places(bytes);
+    this.intervals = [...check.matchAll(/^interval \d+ (\S+)$/gm)].map(([, name]) => name);
+    this.links = [...check.matchAll(/^tlink \d+ (\S+) (\S+) (\S+)$/gm)].map(([, left, relation, right]) => ({ left, relation, right }));
+    for (const [, start, end, kind, name] of spans.matchAll(UNIT)) this.#take(Number(start), Number(end), kind, name);
+    this.#tags.filter(({ name }) => name === "TLINK").forEach((tag, number) => Object.assign(this.links[number], { tag }));
+    this.#nameIntervals();
+  }
+
+  /** The text of an interval, or its value if it has none: nothing if it has neither. */
+  textOf(name) {
+    const tag = this.tagOf(name);
+    if (!tag) return "";
+    return tag.kind === "empty" ? cut(this.value(tag, "value")) : this.#inside(tag);
+  }
+
+  /** The tag that an interval has in the text: that of a time, or of the event of an instance. */
+  tagOf(name) {
+    const tag = this.#instances.get(name);
+    return tag?.name === "MAKEINSTANCE" ? this.#events.get(this.value(tag, "eventID")) : tag;
+  }
+
+  /** Whether an interval is a time. */
+  isTime(name) {
+    return this.#instances.get(name)?.name === "TIMEX3";
+  }
+
+  /** What a link is called: by its lid, or by its number. */
+  called(number) {
+    return this.value(this.links[number].tag, "lid") || `link ${number}`;
+  }
+
+  /** The value of an attribute of a tag, which is empty if it is not there. */
+  value(tag, name) {
+    const found = tag.attributes.get(name);
+    if (!found) return "";
+    const written = textOf(this.#bytes.subarray(...found));
+    return unescaped(written.slice(written.search(/["']/) + 1, -1));
+  }
+
+  /** The lines around the tag of a link, which is marked. */
+  sourceOf(number) {
+    const { start, end } = this.links[number].tag;
+    return this.places.around(start, end).filter(({ isMarked }) => isMarked);
+  }
+
+  /** The text of the document around some tags, of which each is given by its start with what is to be said next to it. */
+  prose(notes) {
+    const wanted = this.#around([...notes.keys()].sort((one, other) => one - other));
+    const runs = [];
+    let range = 0;
+    for (let index = 0; index < this.#starts.length; index++) {
+      while (range < wanted.length && wanted[range][1] < this.#starts[index]) range++;
+      if (range === wanted.length) break;
+      this.#addRun(runs, index, wanted[range], notes);
+    }
+    return runs.map(({ text, note, isGap }) => ({ text: text.replace(/\s*\n\s*/g, "\n"), note, isGap }));
+  }
+
+  /** Adds to the runs what a range has of a text. */
+  #addRun(runs, index, [first, last], notes) {
+    const [start, end, owner] = [this.#starts[index], this.#ends[index], this.#owners[index]];
+    if (end < first) return;
+    const [from, to] = [this.#beginning(Math.max(start, first)), this.#beginning(Math.min(end, last))];
+    const text = owner?.kind === "empty" ? this.value(owner, "value") : unescaped(textOf(this.#bytes.subarray(from, to)));
+    const [note, previous] = [owner && notes.get(owner.start), runs.at(-1)];
+    const isAfterGap = from > start || index > (previous ? previous.index + 1 : 0);
+    if (isAfterGap) runs.push({ text: "", isGap: true, index });
+    if (!isAfterGap && previous?.note === note) Object.assign(previous, { text: previous.text + text, index });
+    else runs.push({ text, note, index });
+  }
+
+  /** Stretches of the document around some places, which do not overlap; a short document is one. */
+  #around(places) {
+    if (this.#bytes.length <= SHORT) return [[0, this.#bytes.length]];
+    const found = [];
+    for (const place of places) {
+      const [first, last] = [place - AROUND, place + 2 * AROUND];
+      if (found.length > 0 && first <= found.at(-1)[1]) found.at(-1)[1] = last;
+      else if (found.length * 3 * AROUND < MOST_SHOWN) found.push([first, last]);
+    }
+    return found;
+  }
+
+  #take(start, end, kind, name) {
+    if (kind === "text") this.#addText(start, end, this.#open.findLast((tag) => tag?.isInterval));
+    else if (kind === "attribute") this.#last?.attributes.set(name, this.#last.attributes.get(name) ?? [start, end]);
+    else if (kind === "start" || kind === "empty") this.#begin(start, end, kind, name);
+    else if (kind === "end") this.#close();
+  }
+
+  #begin(start, end, kind, name) {
+    const isKept = name in IDENTIFIERS;
+    const tag = { start, end, kind, name, attributes: new Map(), first: this.#starts.length, isInterval: name === "EVENT" || name === "TIMEX3" };
+    this.#last = isKept ? tag : null;
+    if (isKept) this.#tags.push(tag);
+    if (kind === "start") this.#open.push(isKept ? tag : null);
+    else if (tag.isInterval) this.#addText(start, end, tag);
+  }
+
+  #close() {
+    const tag = this.#open.pop();
+    if (tag) tag.last = this.#starts.length;
+  }
+
+  #addText(start, end, owner) {
+    this.#starts.push(start);
+    this.#ends.push(end);
+    this.#owners.push(owner);
+  }
+
+  #nameIntervals() {
+    for (const tag of this.#tags) {
+      const named = tag.name === "EVENT" ? this.#events : this.#instances;
+      if (tag.name !== "TLINK") named.set(this.value(tag, IDENTIFIERS[tag.name]), tag);
+    }
+  }
+
+  /** The beginning of the text inside a tag. */
+  #inside(tag) {
+    let text = "";
+    for (let index = tag.first; index < tag.last && text.length < 4 * LONGEST; index++) {
+      if (this.#owners[index]?.kind === "empty") continue;
+      text += unescaped(textOf(this.#bytes.subarray(this.#starts[index], Math.min(this.#ends[index], this.#starts[index] + 16 * LONGEST))));
+    }
+    return cut(text);
+  }
+
+  #beginning(at) {
+    let found = Math.max(at, 0);
+    while (found < this.#bytes.length && this.#bytes[found] >= 0x80 && this.#bytes[found] < 0xc0) found++;
+    return found;
+  }
+}
