@@ -52,8 +52,14 @@ export const ANSWERS = {
 /** The blocks of an answer. */
 export function blocksOf(wording, command, answer, names) {
   if (answer.status === Status.DONE) return ANSWERS[command](wording, answer, names);
-  if (answer.status === Status.CLASH) return command === "seconds" ? cycle(wording, secondsOf(answer.text)) : clash(wording, claimOf(answer.text));
+  if (answer.status === Status.CLASH && command === "seconds") return cycle(wording, secondsOf(answer.text));
+  if (answer.status === Status.CLASH) return [...instead(command), ...clash(wording, claimOf(answer.text))];
   return [paragraph(...problemOf(answer))];
+}
+
+/** What comes before a clash that answers another query. */
+function instead(command) {
+  return command === "solve" ? [] : [paragraph("Nothing can be said of the order in this document, since its links contradict each other.")];
 }
 
 /** Why there is no answer. */
@@ -180,7 +186,7 @@ function cycle(wording, { steps: found }) {
 
 /** A clash: its links, its steps in sentences, and its links in the text. */
 function clash(wording, { cites, walk }) {
-  const count = cites.length === 1 ? "This link cannot be true" : `These ${cites.length} links cannot all be true`;
+  const count = cites.length === 1 ? "this link cannot be true" : `these ${cites.length} links cannot all be true`;
   const others = cites.length === 1 ? "" : " Without any one of them, a timeline fits the others.";
   const end = wording.step(walk[0]);
   return [

@@ -91,10 +91,10 @@ export class DocumentView {
   #about({ verdict, lines, intervals, links }) {
     if (verdict.kind === "fault") return this.#fault(verdict, lines);
     if (verdict.kind !== "accepted") return [make("p", { class: "verdict wrong" }, this.#notJudged(verdict))];
-    const counts = Object.entries(verdict.counts).map(([name, count]) => counted(count, NOUNS[name]));
+    const counts = Object.entries(verdict.counts).filter(([, count]) => count > 0).map(([name, count]) => counted(count, NOUNS[name]));
     const accepted = make("p", { class: "verdict good" }, "Accepted: the document keeps the rules.");
     const others = "Whether its links contradict each other is another question: Timeline or clash answers it.";
-    return [accepted, make("p", {}, `It has ${counts.join(", ")}. ${links > 0 ? others : ""}`), this.#queries(), this.#pairs(intervals)];
+    return [accepted, make("p", {}, counts.length > 0 ? `It has ${counts.join(", ")}. ` : "", links > 0 ? others : ""), this.#queries(), this.#pairs(intervals)];
   }
 
   #fault({ number, name, line, column, offset }, lines) {
@@ -126,7 +126,7 @@ export class DocumentView {
 
   /** Queries about two intervals. */
   #pairs(intervals) {
-    if (intervals.length === 0) return make("p", {}, "It has no instances and no times, so nothing can be queried about two of them.");
+    if (intervals.length === 0) return make("p", {}, "It has no instances and no times, so there are no two that can be compared.");
     const options = () => intervals.map(({ name, text }) => make("option", { value: name }, text ? `${apart(text)} (${name})` : name));
     const [first, second] = ["first", "second"].map((id) => make("select", { id }, options()));
     second.selectedIndex = Math.min(1, intervals.length - 1);

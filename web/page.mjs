@@ -36,6 +36,7 @@ function take(files) {
     queue.push(one);
   }
   if (!isChecking) check();
+  draw();
 }
 
 /** Has all files of the queue judged, some at once. */
@@ -136,6 +137,27 @@ function drawEvidence() {
   part("evidence-given").hidden = lines.length === 0;
 }
 
+/** Takes what was chosen, and says so if that is nothing. */
+function taken(files) {
+  take(files);
+  if (files.length === 0) part("summary").textContent = "This folder has no documents: their names end with .xml or .tml.";
+}
+
+/** Takes what was dropped, as it is found. */
+async function takeDropped(transfer) {
+  let count = 0;
+  await dropped(transfer, (files) => {
+    count += files.length;
+    take(files);
+  });
+  if (count === 0) taken([]);
+}
+
+/** Says that a folder cannot be read as it was given. */
+function notRead() {
+  part("summary").textContent = "The browser cannot read what was dropped. Choose the files or the folder in place of dropping them.";
+}
+
 /** Takes a text as a document. */
 function takeText(text) {
   const { file, hadHalves } = pastedFile(text);
@@ -145,7 +167,7 @@ function takeText(text) {
 for (const [name, field] of [["choose-files", "files"], ["choose-folder", "folder"]]) {
   part(name).addEventListener("click", () => part(field).click());
   part(field).addEventListener("change", () => {
-    take(chosen(part(field).files));
+    taken(chosen(part(field).files));
     part(field).value = "";
   });
 }
@@ -169,6 +191,6 @@ for (const name of ["dragleave", "drop"]) addEventListener(name, () => document.
 addEventListener("drop", (event) => {
   event.preventDefault();
   const text = event.dataTransfer.getData("text/plain");
-  if (event.dataTransfer.types.includes("Files")) dropped(event.dataTransfer, take);
+  if (event.dataTransfer.types.includes("Files")) takeDropped(event.dataTransfer).catch(notRead);
   else if (text) takeText(text);
 });

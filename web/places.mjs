@@ -49,7 +49,7 @@ export class Places {
   around(start, end) {
     const line = upTo(this.#lines, start);
     const first = Math.max(line - LINES_AROUND, 0);
-    const found = this.#lines.slice(first, line + LINES_AROUND + 1);
+    const found = this.#lines.slice(first, line + LINES_AROUND + 1).filter((from) => from < this.#bytes.length || from === this.#lines[line]);
     return found.map((from, index) => {
       const until = this.#lines[first + index + 1] ?? this.#bytes.length;
       const of = index === line - first ? this.#cut(from, until, start, end) : this.#cut(from, until, until, until);
@@ -75,12 +75,15 @@ export class Places {
     }
   }
 
-  /** How many characters come before an offset. A byte that is not UTF-8 counts as one. */
+  /** How many characters come before an offset. A byte that is not UTF-8, or belongs to a cut one, counts as one. */
   #before(offset) {
     if (this.#blocks.length === 0 || offset < this.#begin) return 0;
     const block = upTo(this.#blocks, offset);
     let count = this.#counts[block];
-    for (let at = this.#blocks[block]; at < offset; at += characterAt(this.#bytes, at) || 1) count++;
+    for (let at = this.#blocks[block], length = 0; at < offset; at += length) {
+      length = characterAt(this.#bytes, at) || 1;
+      count += at + length > offset ? offset - at : 1;
+    }
     return count;
   }
 

@@ -94,7 +94,10 @@ export class Source {
       if (range === wanted.length) break;
       this.#addRun(runs, index, wanted[range], notes);
     }
-    return runs.map(({ text, note, isGap }) => ({ text: text.replace(/\s*\n\s*/g, "\n"), note, isGap }));
+    return runs.map(({ text, note, isGap }, index) => {
+      const [isFirst, isLast, lined] = [index === 0, index === runs.length - 1, text.replace(/\s*\n\s*/g, "\n")];
+      return { text: isFirst ? lined.trimStart() : isLast ? lined.trimEnd() : lined, note, isGap };
+    });
   }
 
   /** Adds to the runs what a range has of a text. */
@@ -106,7 +109,7 @@ export class Source {
     const [note, previous] = [owner && notes.get(owner.start), runs.at(-1)];
     const isAfterGap = from > start || index > (previous ? previous.index + 1 : 0);
     if (isAfterGap) runs.push({ text: "", isGap: true, index });
-    if (!isAfterGap && previous?.note === note) Object.assign(previous, { text: previous.text + text, index });
+    if (previous && !isAfterGap && previous.note === note) Object.assign(previous, { text: previous.text + text, index });
     else runs.push({ text, note, index });
   }
 

@@ -9,7 +9,7 @@ export function sentence(parts) {
     if (typeof part === "string") return part;
     if ("said" in part) return foreign(part.said, { class: "said" });
     if ("code" in part) return make("code", {}, foreign(part.code));
-    return make("b", { class: "link" }, foreign(part.called));
+    return make("b", { class: "lid" }, foreign(part.called));
   });
 }
 
