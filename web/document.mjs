@@ -24,14 +24,15 @@ export class DocumentView {
   #tables;
   #title = make("h2", { id: "document-title", tabindex: -1 });
   #body = make("div");
-  #answer = make("div", { id: "answer", role: "region", "aria-live": "polite", "aria-label": "Answer" });
+  #answer = make("div", { id: "answer", role: "region", "aria-label": "Answer" });
+  #said = make("p", { class: "unseen", role: "status" });
   #turn = 0;
   #document = null;
 
   /** By what runs tasks, and what the page knows of faults and relations. */
   constructor(section, runner, tables) {
     [this.#section, this.#runner, this.#tables] = [section, runner, tables];
-    section.append(this.#title, this.#body, this.#answer);
+    section.append(this.#title, this.#body, this.#said, this.#answer);
   }
 
   /** The document that is shown. */
@@ -47,8 +48,10 @@ export class DocumentView {
     this.#answer.replaceChildren();
     if (hasFocus) this.#title.focus();
     const found = await this.#run(this.#body, "The document is checked …", "look", {});
-    if (found) this.#body.replaceChildren(...this.#about(found));
-    return found?.verdict;
+    if (!found) return null;
+    this.#body.replaceChildren(...this.#about(found));
+    this.#said.textContent = this.#body.firstChild.textContent;
+    return found.verdict;
   }
 
   /** Has evidence checked against the document, and shows and answers what tml says of it. */
@@ -77,6 +80,7 @@ export class DocumentView {
     if (!found) return null;
     const saving = found.evidence && this.#saving(found.evidence, ending);
     this.#answer.replaceChildren(make("h3", {}, title), ...found.blocks.map(block), ...(saving ? [saving] : []));
+    this.#said.textContent = this.#answer.querySelector("p")?.textContent ?? this.#answer.firstChild.textContent;
     return found;
   }
 

@@ -54,6 +54,7 @@ async function check() {
     await settle();
   } catch (error) {
     isChecking = false;
+    if (!(error instanceof Stopped)) judged([{ key: queue[0].key, verdict: { kind: "not judged", why: [error.message] } }]);
     stopped(error);
   }
 }

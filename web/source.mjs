@@ -8,6 +8,7 @@ const LONGEST = 40;
 const AROUND = 240;
 const SHORT = 6000;
 const MOST_SHOWN = 24000;
+const MOST_OF_VALUE = 2000; // bytes of a value that is shown
 
 /** A text on one line, and cut if it is long. */
 export function cut(text, longest = LONGEST) {
@@ -51,7 +52,7 @@ export class Source {
   textOf(name) {
     const tag = this.tagOf(name);
     if (!tag) return "";
-    return tag.kind === "empty" ? cut(this.value(tag, "value")) : this.#inside(tag);
+    return tag.kind === "empty" ? cut(this.value(tag, "value", MOST_OF_VALUE)) : this.#inside(tag);
   }
 
   /** The tag that an interval has in the text: that of a time, or of the event of an instance. */
@@ -70,11 +71,10 @@ export class Source {
     return this.value(this.links[number].tag, "lid") || `link ${number}`;
   }
 
-  /** The value of an attribute of a tag, which is empty if it is not there. */
-  value(tag, name) {
-    const found = tag.attributes.get(name);
-    if (!found) return "";
-    const written = textOf(this.#bytes.subarray(...found));
+  /** The value of an attribute of a tag, or so much of it; it is empty if it is not there. */
+  value(tag, name, most = Infinity) {
+    const [start, end] = tag.attributes.get(name) ?? [0, 0];
+    const written = textOf(this.#bytes.subarray(start, Math.min(end, start + most)));
     return unescaped(written.slice(written.search(/["']/) + 1, -1));
   }
 
@@ -105,7 +105,7 @@ export class Source {
     const [start, end, owner] = [this.#starts[index], this.#ends[index], this.#owners[index]];
     if (end < first) return;
     const [from, to] = [this.#beginning(Math.max(start, first)), this.#beginning(Math.min(end, last))];
-    const text = owner?.kind === "empty" ? this.value(owner, "value") : unescaped(textOf(this.#bytes.subarray(from, to)));
+    const text = owner?.kind === "empty" ? this.value(owner, "value", MOST_OF_VALUE) : unescaped(textOf(this.#bytes.subarray(from, to)));
     const [note, previous] = [owner && notes.get(owner.start), runs.at(-1)];
     const isAfterGap = from > start || index > (previous ? previous.index + 1 : 0);
     if (isAfterGap) runs.push({ text: "", isGap: true, index });

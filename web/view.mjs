@@ -31,11 +31,13 @@ const BLOCKS = {
 
 /** The lines of a source, in which a stretch is marked. */
 export function sourceLines(lines) {
-  const made = lines.map(({ line, before, marked, after, isMarked }) => {
-    const mark = isMarked ? make("mark", {}, shown(marked) || make("span", { class: "nothing" }, "the end")) : null;
-    return make("div", {}, make("span", { class: "number" }, `${line}`), make("bdi", { dir: "ltr" }, shown(before), mark, shown(after)));
-  });
-  return make("div", { class: "source", tabindex: 0, role: "region", "aria-label": "Lines of the source" }, made);
+  const source = make("div", { class: "source", tabindex: 0, role: "region", "aria-label": "Lines of the source" });
+  return make("div", {}, source, growing(source, lines.map((line) => () => sourceLine(line))));
+}
+
+function sourceLine({ line, before, marked, after, isMarked }) {
+  const mark = isMarked ? make("mark", {}, shown(marked) || make("span", { class: "nothing" }, "the end")) : null;
+  return make("div", {}, make("span", { class: "number" }, `${line}`), make("bdi", { dir: "ltr" }, shown(before), mark, shown(after)));
 }
 
 /** A stretch of the text of a document, marked if something is to be said of it. */

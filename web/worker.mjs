@@ -34,15 +34,20 @@ async function answer({ number, task, ...rest }) {
     const tml = await started;
     postMessage({ number, done: await TASKS[task](tml, rest, (part) => postMessage({ number, part })) });
   } catch (error) {
-    postMessage({ number, failed: error instanceof RangeError ? "The browser gives too little memory for this." : String(error) });
+    postMessage({ number, failed: reason(error) });
   }
+}
+
+/** Why something failed. */
+function reason(error) {
+  return error instanceof RangeError ? "The browser gives too little memory for this." : String(error);
 }
 
 /** The verdicts on some files, told as they come. */
 async function checkAll(tml, { files }, tell) {
   let [found, since] = [[], Date.now()];
   for (const { key, file } of files) {
-    found.push({ key, verdict: await checked(tml, file) });
+    found.push({ key, verdict: await checked(tml, file).catch((error) => ({ kind: "not judged", why: [reason(error)] })) });
     if (Date.now() - since < PAUSE) continue;
     tell(found);
     [found, since] = [[], Date.now()];

@@ -73,12 +73,17 @@ class Made(unittest.TestCase):
     def test_no_script_makes_markup_of_a_text(self) -> None:
         for source in Path(TOP, "web").glob("*.mjs"):
             text = source.read_text(encoding="utf-8")
-            self.assertNotRegex(text, r"innerHTML|outerHTML|insertAdjacentHTML|document\.write|\beval\b|new Function|DOMParser", source.name)
+            self.assertNotRegex(
+                text, r"innerHTML|outerHTML|insertAdjacentHTML|document\.write|\beval\b|new Function|DOMParser", source.name
+            )
 
     def test_what_cannot_be_put_together(self) -> None:
         rows = [
             ({"worker.mjs": "export const a = 1;\nfunction a() {}\n"}, "the same name twice: a"),
-            ({"worker.mjs": 'import { b } from "./b.mjs";\nconst a = "</SCRIPT>";\n', "b.mjs": "export const b = 1;\n"}, "ends it too early"),
+            (
+                {"worker.mjs": 'import { b } from "./b.mjs";\nconst a = "</SCRIPT>";\n', "b.mjs": "export const b = 1;\n"},
+                "ends it too early",
+            ),
             ({"page.html": "<html></html>"}, "has not one line"),
         ]
         for changed, said in rows:
@@ -118,7 +123,20 @@ class Counted(unittest.TestCase):
 
 def drawn_bytes(random: Random) -> bytes:
     """Some bytes with lines and with characters of all lengths, not all of them whole; some are longer than a block of places."""
-    parts = (b"a", b"\n", b"\r", b"\r\n", "é".encode(), "語".encode(), "😀".encode(), b"\xef\xbb\xbf", b"\xe2\x82", b"\xff", b"\xed\xa0\x80", b"x" * 50)
+    parts = (
+        b"a",
+        b"\n",
+        b"\r",
+        b"\r\n",
+        "é".encode(),
+        "語".encode(),
+        "😀".encode(),
+        b"\xef\xbb\xbf",
+        b"\xe2\x82",
+        b"\xff",
+        b"\xed\xa0\x80",
+        b"x" * 50,
+    )
     chosen = random.sample(parts, random.randint(1, len(parts)))
     return b"".join(random.choices(chosen, k=random.choice((0, 1, 5, 40, 3000))))
 
@@ -182,7 +200,11 @@ class PageTest(unittest.TestCase):
 
     def judged(self, count: int = 1) -> None:
         """Waits until so many documents are judged, and one that is alone is shown."""
-        shown = "document.querySelector('#document p.verdict')" if count == 1 else f"document.querySelectorAll('#verdicts .name').length === {count}"
+        shown = (
+            "document.querySelector('#document p.verdict')"
+            if count == 1
+            else f"document.querySelectorAll('#verdicts .name').length === {count}"
+        )
         self.until(f"document.querySelector('#checking').hidden && {shown}")
 
     def ask(self, command: str, *names: str) -> str:
@@ -284,7 +306,11 @@ class Given(PageTest):
         self.assertEqual({(row["verdict"], row["fault"], row["line"], row["column"]) for row in rows}, {("fault", "6 Unclosed", "1", "1")})
 
     def test_what_tml_does_not_take(self) -> None:
-        rows = [(TOO_LONG, "longer than 4,194,304 bytes"), (b"", "Fault 6 Unclosed, line 1, column 1"), (b"\n\xff", "Fault 1 NotUtf8, line 2, column 1")]
+        rows = [
+            (TOO_LONG, "longer than 4,194,304 bytes"),
+            (b"", "Fault 6 Unclosed, line 1, column 1"),
+            (b"\n\xff", "Fault 1 NotUtf8, line 2, column 1"),
+        ]
         for number, (content, said) in enumerate(rows):
             with self.subTest(said):
                 self.browser.open(str(PAGE))
@@ -312,7 +338,9 @@ class Said(PageTest):
             self.write(f"{name}.xml", text)
         self.choose(*(self.folder / f"{name}.xml" for name in FAULT_NAMES))
         self.judged(17)
-        self.assertEqual(set(self.texts("#verdicts tbody td:nth-child(3)")), {f"{number} {name}" for number, name in enumerate(FAULT_NAMES, 1)})
+        self.assertEqual(
+            set(self.texts("#verdicts tbody td:nth-child(3)")), {f"{number} {name}" for number, name in enumerate(FAULT_NAMES, 1)}
+        )
         for number, name in enumerate(FAULT_NAMES, 1):
             with self.subTest(name):
                 self.value(f"[...document.querySelectorAll('#verdicts .name')].find((one) => one.textContent === '{name}.xml').click()")
@@ -341,9 +369,13 @@ class Said(PageTest):
         )
         steps = self.texts("#answer ol li")
         self.assertEqual(len(steps), 5)
-        calendar = "The end of Monday (t1) is before the start of Wednesday (t2), since by the calendar Monday ends at 1998-03-10T00:00:00 and "
+        calendar = (
+            "The end of Monday (t1) is before the start of Wednesday (t2), since by the calendar Monday ends at 1998-03-10T00:00:00 and "
+        )
         self.assertIn(calendar + "Wednesday starts at 1998-03-11T00:00:00.", steps)
-        self.assertIn("The start of reopened (ei9) is not after the end of waited (ei5), since waited IBEFORE reopened (l12: ei5 IBEFORE ei9).", steps)
+        self.assertIn(
+            "The start of reopened (ei9) is not after the end of waited (ei5), since waited IBEFORE reopened (l12: ei5 IBEFORE ei9).", steps
+        )
         marks = ["Monday l5", "closed l5 l6", "waited l6 l12", "reopened l11 l12", "Wednesday l11"]
         self.assertEqual(self.texts("#answer .prose mark"), marks)
         self.assertEqual([line.strip() for line in self.texts("#answer .source .number")], ["23", "24", "29", "30"])
@@ -411,8 +443,10 @@ class Used(PageTest):
         self.value("document.querySelector('[data-command=solve]').click(); document.querySelector('#answer .stop').click()")
         self.until("document.querySelector('#answer').textContent === 'Stopped.'")
         self.assertIn("A clash", self.ask("solve"))
-        self.value("""document.querySelector('#pasted').value = '<TimeML/>'; document.querySelector('#check-pasted').click();
-        document.querySelector('#stop-checking').click()""")
+        self.value(
+            """document.querySelector('#pasted').value = '<TimeML/>'; document.querySelector('#check-pasted').click();
+        document.querySelector('#stop-checking').click()"""
+        )
         self.until("!document.querySelector('#stopped').hidden")
         self.assertEqual(self.text("#stopped span"), "Stopped: 1 document not checked.")
         self.assertEqual(self.value("document.activeElement.id"), "go-on")
