@@ -80,6 +80,7 @@ export class DocumentView {
     if (!found) return null;
     const saving = found.evidence && this.#saving(found.evidence, ending);
     this.#answer.replaceChildren(make("h3", {}, title), ...found.blocks.map(block), ...(saving ? [saving] : []));
+    this.#answer.firstChild.scrollIntoView({ block: "nearest" });
     this.#said.textContent = this.#answer.querySelector("p")?.textContent ?? this.#answer.firstChild.textContent;
     return found;
   }
@@ -97,7 +98,7 @@ export class DocumentView {
     if (verdict.kind !== "accepted") return [make("p", { class: "verdict wrong" }, this.#notJudged(verdict))];
     const counts = Object.entries(verdict.counts).filter(([, count]) => count > 0).map(([name, count]) => counted(count, NOUNS[name]));
     const accepted = make("p", { class: "verdict good" }, "Accepted: the document keeps the rules.");
-    const others = "Whether its links contradict each other is another question: Timeline or clash answers it.";
+    const others = ["Whether its links contradict each other, ", make("b", {}, "Timeline or clash"), " answers."];
     return [accepted, make("p", {}, counts.length > 0 ? `It has ${counts.join(", ")}. ` : "", links > 0 ? others : ""), this.#queries(), this.#pairs(intervals)];
   }
 
@@ -153,5 +154,5 @@ export function counted(count, noun) {
 export function summary(documents) {
   const counts = new Map();
   for (const { verdict } of documents) counts.set(verdictName(verdict), (counts.get(verdictName(verdict)) ?? 0) + 1);
-  return `${counted(documents.length, "document")}: ${[...counts].map(([name, count]) => `${MANY.format(count)} ${name}`).join(", ")}.`;
+  return `${counted(documents.length, "document")}: ${[...counts].map(([name, count]) => `${MANY.format(count)} ${name === "fault" ? "with a fault" : name}`).join(", ")}.`;
 }

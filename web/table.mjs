@@ -105,7 +105,7 @@ export class VerdictTable {
     const choose = () => this.#onchoose(one.key);
     const named = button("", choose, { class: "name", tabindex: index === 0 ? 0 : -1, "data-key": one.key });
     named.append(foreign(one.name));
-    const cells = COLUMNS.slice(1).map(([, value]) => make("td", {}, String(value(one) ?? "")));
+    const cells = COLUMNS.slice(1).map(([, value]) => cell(value(one)));
     cells[0].className = `verdict ${one.verdict?.kind === "accepted" ? "good" : one.verdict ? "wrong" : ""}`;
     return make("tr", {}, make("th", { scope: "row" }, named), cells);
   }
@@ -147,6 +147,11 @@ export class VerdictTable {
     const rows = this.#rows().map((one) => Object.fromEntries(COLUMNS.map(([name, value]) => [name, value(one) === "" ? null : value(one)])));
     save("verdicts.json", "application/json", `${JSON.stringify(rows, null, 1)}\n`);
   }
+}
+
+/** A cell of the table. */
+function cell(value) {
+  return make("td", { class: typeof value === "number" && "number" }, String(value ?? ""));
 }
 
 /** Which of two values comes first; those that are not there come last. */

@@ -283,7 +283,7 @@ class Given(PageTest):
         self.choose(self.folder / "corpus", field="#folder")
         self.until("document.querySelector('#table .buttons').innerText.includes('1 to 100 of 251')")
         self.until("document.querySelector('#checking').hidden")
-        self.assertEqual(self.text("#summary"), "251 documents: 250 accepted, 1 fault.")
+        self.assertEqual(self.text("#summary"), "251 documents: 250 accepted, 1 with a fault.")
         self.assertEqual(self.texts("#verdicts .name")[1:4], ["corpus/0.xml", "corpus/1.xml", "corpus/2.xml"])
         self.click("#verdicts thead th:nth-child(7) button")
         self.click("#verdicts thead th:nth-child(7) button")
