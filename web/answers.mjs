@@ -7,7 +7,7 @@ import { code, said } from "./wording.mjs";
 const paragraph = (...parts) => ({ kind: "text", parts });
 const heading = (...parts) => ({ kind: "heading", parts });
 const list = (items) => ({ kind: "list", items });
-const steps = (items) => ({ kind: "steps", items });
+const sentences = (items) => ({ kind: "steps", items: items.map((parts) => capital([...parts, "."])) });
 const table = (caption, head, rows) => ({ kind: "table", caption, head, rows });
 
 const REFUSALS = {
@@ -37,7 +37,7 @@ const SHOWN = {
 /** What evidence shows. */
 
 /** What is answered to each command about an accepted document. The answer of tml has the status and text. */
-export const ANSWERS = {
+const ANSWERS = {
   dates: (wording) => [datesTable(wording)],
   links: (wording) => [linksTable(wording)],
   solve: (wording, { text }) => timelineOf(wording, claimOf(text)),
@@ -59,7 +59,8 @@ export function blocksOf(wording, command, answer, names) {
 
 /** What comes before a clash that answers another query. */
 function instead(command) {
-  return command === "solve" ? [] : [paragraph("Nothing can be said of the order in this document, since its links contradict each other.")];
+  const reason = "Nothing can be said of the order in this document, since its links contradict each other.";
+  return command === "solve" ? [] : [paragraph(reason)];
 }
 
 /** Why there is no answer. */
@@ -104,7 +105,8 @@ function linksTable(wording) {
 function ranks(wording, caption, ends) {
   const rows = ends.map(([start, end], index) => ({ start, end, index }));
   rows.sort((one, other) => Number(one.start - other.start) || Number(one.end - other.end) || one.index - other.index);
-  return table(caption, ["start", "end", "interval"], rows.map(({ start, end, index }) => [[`${start}`], [`${end}`], wording.interval(wording.names[index])]));
+  const cells = rows.map(({ start, end, index }) => [[`${start}`], [`${end}`], wording.interval(wording.names[index])]);
+  return table(caption, ["start", "end", "interval"], cells);
 }
 
 function timelineOf(wording, { ends }) {
@@ -125,7 +127,7 @@ function proof(wording, { first, relation, second, walks }, words) {
   const orders = wording.ordersOf(relation, wording.names[first], wording.names[second]);
   const parts = orders.flatMap((order, index) => [
     heading(...capital(wording.order(order))),
-    walks[index].length > 0 ? steps(walks[index].map((step) => capital([...wording.step(step), "."]))) : paragraph("They are the same point."),
+    walks[index].length > 0 ? sentences(walks[index].map((step) => wording.step(step))) : paragraph("They are the same point."),
   ]);
   return [paragraph(...words, " holds in every timeline that fits. The proof:"), ...parts];
 }
@@ -166,7 +168,8 @@ function redundant(wording, text) {
 }
 
 function placing(wording, { ends }) {
-  const rows = ends.map(([start, end], index) => [wording.interval(wording.names[index]), [civil(start)], [civil(end)], [lengthOf(end - start)]]);
+  const times = ends.map(([start, end]) => [[civil(start)], [civil(end)], [lengthOf(end - start)]]);
+  const rows = times.map((cells, index) => [wording.interval(wording.names[index]), ...cells]);
   return [
     paragraph("All links, dates and lengths can be met in whole seconds. The table has one placing of many."),
     table("A placing in whole seconds", ["interval", "from", "to", "lasts"], rows),
@@ -179,7 +182,7 @@ function cycle(wording, { steps: found }) {
   const sorted = [...lines.slice(first), ...lines.slice(0, first)];
   return [
     paragraph("There is no placing in whole seconds: these cannot all be met."),
-    steps(sorted.map((step) => capital([...wording.second(step), "."]))),
+    sentences(sorted.map((step) => wording.second(step))),
     ...linksInText(wording, [...new Set(sorted.filter(({ kind }) => kind === "via").map((step) => step.first))]),
   ];
 }
@@ -193,7 +196,7 @@ function clash(wording, { cites, walk }) {
     paragraph(`A clash: ${count}, with the dates of the document.${others}`),
     list(cites.map((number) => wording.link(number))),
     heading("Step by step"),
-    steps(walk.map((step) => capital([...wording.step(step), "."]))),
+    sentences(walk.map((step) => wording.step(step))),
     paragraph("The steps lead from a point back to it, so it would be before itself: ", ...begun(end), "."),
     ...linksInText(wording, cites),
   ];

@@ -4,7 +4,15 @@ import { Stopped } from "./runner.mjs";
 import { verdictName } from "./table.mjs";
 import { block, sentence, sourceLines } from "./view.mjs";
 
-const NOUNS = { events: "event", instances: "instance", timex: "time", signals: "signal", tlinks: "TLINK", alinks: "ALINK", slinks: "SLINK" };
+const NOUNS = {
+  events: "event",
+  instances: "instance",
+  timex: "time",
+  signals: "signal",
+  tlinks: "TLINK",
+  alinks: "ALINK",
+  slinks: "SLINK",
+};
 const QUERIES = [
   ["dates", "Dates", "Times by the calendar"],
   ["links", "Links", "Links in words"],
@@ -15,7 +23,6 @@ const QUERIES = [
 /** The command, the text of its button, and the heading of its answer. */
 
 const MANY = new Intl.NumberFormat("en");
-const SECTION_ENDINGS = { seconds: "seconds" };
 
 /** One document, in a section of the page. */
 export class DocumentView {
@@ -99,15 +106,17 @@ export class DocumentView {
     const counts = Object.entries(verdict.counts).filter(([, count]) => count > 0).map(([name, count]) => counted(count, NOUNS[name]));
     const accepted = make("p", { class: "verdict good" }, "Accepted: the document keeps the rules.");
     const others = ["Whether its links contradict each other, ", make("b", {}, "Timeline or clash"), " answers."];
-    return [accepted, make("p", {}, counts.length > 0 ? `It has ${counts.join(", ")}. ` : "", links > 0 ? others : ""), this.#queries(), this.#pairs(intervals)];
+    const said = make("p", {}, counts.length > 0 ? `It has ${counts.join(", ")}. ` : "", links > 0 ? others : "");
+    return [accepted, said, this.#queries(), this.#pairs(intervals)];
   }
 
   #fault({ number, name, line, column, offset }, lines) {
+    const others = "This fault may hide others: fix it, and check again.";
     return [
       make("p", { class: "verdict wrong" }, `Fault ${number} ${name}, line ${MANY.format(line)}, column ${MANY.format(column)}`),
       make("p", { id: "rule" }, coded(this.#tables.faults[name] ?? "This page does not know the fault.")),
       sourceLines(lines),
-      make("p", { class: "soft" }, `The place is byte ${MANY.format(offset)}, counted from 0. This fault may hide others: fix it, and check again.`),
+      make("p", { class: "soft" }, `The place is byte ${MANY.format(offset)}, counted from 0. ${others}`),
     ];
   }
 
@@ -117,9 +126,10 @@ export class DocumentView {
   }
 
   #queries() {
-    const buttons = QUERIES.map(([command, text, title]) =>
-      button(text, () => this.#ask(title, "query", { command, words: [] }, SECTION_ENDINGS[command] ?? "evidence"), { "data-command": command }),
-    );
+    const buttons = QUERIES.map(([command, text, title]) => {
+      const ending = command === "seconds" ? "seconds" : "evidence";
+      return button(text, () => this.#ask(title, "query", { command, words: [] }, ending), { "data-command": command });
+    });
     const file = make("input", { type: "file", id: "evidence", hidden: true, "aria-label": "Evidence" });
     file.addEventListener("change", () => {
       if (file.files[0]) this.judge({ name: file.files[0].name, file: file.files[0] });
@@ -140,7 +150,10 @@ export class DocumentView {
     const holds = () => ask("ask", "Does it hold?", [first.value, relation.value, second.value]);
     const possible = () => ask("possible", "What is possible?", [first.value, second.value]);
     const labelled = [["First", first], ["Relation", relation], ["Second", second]].map(([text, field]) => make("label", {}, text, field));
-    const buttons = [button("Does it hold?", holds, { "data-command": "ask" }), button("What is possible?", possible, { "data-command": "possible" })];
+    const buttons = [
+      button("Does it hold?", holds, { "data-command": "ask" }),
+      button("What is possible?", possible, { "data-command": "possible" }),
+    ];
     return make("fieldset", {}, make("legend", {}, "Two intervals"), make("div", { class: "query" }, labelled, buttons));
   }
 }
@@ -154,5 +167,6 @@ export function counted(count, noun) {
 export function summary(documents) {
   const counts = new Map();
   for (const { verdict } of documents) counts.set(verdictName(verdict), (counts.get(verdictName(verdict)) ?? 0) + 1);
-  return `${counted(documents.length, "document")}: ${[...counts].map(([name, count]) => `${MANY.format(count)} ${name === "fault" ? "with a fault" : name}`).join(", ")}.`;
+  const parts = [...counts].map(([name, count]) => `${MANY.format(count)} ${name === "fault" ? "with a fault" : name}`);
+  return `${counted(documents.length, "document")}: ${parts.join(", ")}.`;
 }

@@ -22,7 +22,8 @@ export async function dropped(transfer, tell) {
   const items = [...transfer.items].filter(({ kind }) => kind === "file");
   const taken = items.map((item) => ({ file: item.getAsFile(), entry: item.webkitGetAsEntry?.(), handle: item.getAsFileSystemHandle?.() }));
   for (const { file, entry, handle } of taken) {
-    if (entry?.isDirectory) await walked(handle ? { name: entry.name, childrenOf: inHandle, folder: await handle } : { name: entry.name, childrenOf: inEntry, folder: entry }, tell);
+    const [folder, childrenOf] = handle ? [await handle, inHandle] : [entry, inEntry];
+    if (entry?.isDirectory) await walked({ name: entry.name, folder, childrenOf }, tell);
     else if (file) tell([{ name: file.name, file }]);
   }
 }
@@ -49,7 +50,9 @@ async function opened({ name, open }) {
 /** What a folder has, as Chromium says it: there a page from the disk cannot read entries. */
 async function inHandle(folder) {
   const children = [];
-  for await (const [name, self] of folder.entries()) children.push({ name, self, isFolder: self.kind === "directory", open: () => self.getFile() });
+  for await (const [name, self] of folder.entries()) {
+    children.push({ name, self, isFolder: self.kind === "directory", open: () => self.getFile() });
+  }
   return children;
 }
 
@@ -60,8 +63,13 @@ async function inEntry(folder) {
   for (;;) {
     const lump = await new Promise((done, failed) => reader.readEntries(done, failed));
     if (lump.length === 0) return children;
-    children.push(...lump.map((self) => ({ name: self.name, self, isFolder: self.isDirectory, open: () => new Promise((done, failed) => self.file(done, failed)) })));
+    children.push(...lump.map(childOf));
   }
+}
+
+function childOf(self) {
+  const open = () => new Promise((done, failed) => self.file(done, failed));
+  return { name: self.name, self, isFolder: self.isDirectory, open };
 }
 
 /** A pasted text as a file, and whether it had halves of characters, in whose place U+FFFD is. */

@@ -75,9 +75,9 @@ function judged(found) {
 /** Says why files were not judged, and offers to go on. */
 function stopped(error) {
   draw();
-  const left = counted(queue.length, "document");
+  const why = error instanceof Stopped ? "Stopped" : error.message;
   part("stopped").hidden = false;
-  part("stopped").firstElementChild.textContent = error instanceof Stopped ? `Stopped: ${left} not checked.` : `${error.message}: ${left} not checked.`;
+  part("stopped").firstElementChild.textContent = `${why}: ${counted(queue.length, "document")} not checked.`;
   part("go-on").focus();
 }
 

@@ -49,7 +49,8 @@ export class Places {
   around(start, end) {
     const line = upTo(this.#lines, start);
     const first = Math.max(line - LINES_AROUND, 0);
-    const found = this.#lines.slice(first, line + LINES_AROUND + 1).filter((from) => from < this.#bytes.length || from === this.#lines[line]);
+    const isThere = (from) => from < this.#bytes.length || from === this.#lines[line];
+    const found = this.#lines.slice(first, line + LINES_AROUND + 1).filter(isThere);
     return found.map((from, index) => {
       const until = this.#lines[first + index + 1] ?? this.#bytes.length;
       const of = index === line - first ? this.#cut(from, until, start, end) : this.#cut(from, until, until, until);

@@ -133,8 +133,8 @@ export class Source {
   }
 
   #begin(start, end, kind, name) {
-    const isKept = name in IDENTIFIERS;
-    const tag = { start, end, kind, name, attributes: new Map(), first: this.#starts.length, isInterval: name === "EVENT" || name === "TIMEX3" };
+    const [isKept, isInterval] = [Object.hasOwn(IDENTIFIERS, name), name === "EVENT" || name === "TIMEX3"];
+    const tag = { start, end, kind, name, attributes: new Map(), first: this.#starts.length, isInterval };
     this.#last = isKept ? tag : null;
     if (isKept) this.#tags.push(tag);
     if (kind === "start") this.#open.push(isKept ? tag : null);

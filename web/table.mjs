@@ -42,7 +42,8 @@ export class VerdictTable {
   /** In a section; `onchoose` is given the key of the document that somebody chooses. */
   constructor(section, onchoose) {
     this.#onchoose = onchoose;
-    const filters = [make("label", { for: "search" }, "Name or fault has "), this.#search, " ", make("label", { for: "verdict" }, "Verdict "), this.#verdict];
+    const labels = [make("label", { for: "search" }, "Name or fault has "), make("label", { for: "verdict" }, "Verdict ")];
+    const filters = [labels[0], this.#search, " ", labels[1], this.#verdict];
     const exports = [button("Save as CSV", () => this.#saveCsv()), " ", button("Save as JSON", () => this.#saveJson())];
     const caption = make("caption", {}, "Verdicts of tml check");
     const all = make("table", { id: "verdicts" }, caption, make("thead", {}, this.#head), this.#body);
@@ -144,7 +145,8 @@ export class VerdictTable {
   }
 
   #saveJson() {
-    const rows = this.#rows().map((one) => Object.fromEntries(COLUMNS.map(([name, value]) => [name, value(one) === "" ? null : value(one)])));
+    const cells = (one) => COLUMNS.map(([name, value]) => [name, value(one) === "" ? null : value(one)]);
+    const rows = this.#rows().map((one) => Object.fromEntries(cells(one)));
     save("verdicts.json", "application/json", `${JSON.stringify(rows, null, 1)}\n`);
   }
 }

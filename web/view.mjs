@@ -58,7 +58,8 @@ function tabled(caption, head, rows) {
   const headings = make("tr", {}, head.map((name) => make("th", { scope: "col" }, name)));
   const all = make("table", {}, make("caption", {}, caption), make("thead", {}, headings), body);
   const wide = make("div", { class: "wide", tabindex: 0, role: "region", "aria-label": caption }, all);
-  return make("div", {}, wide, growing(body, rows.map((cells) => () => make("tr", {}, cells.map((parts) => make("td", {}, sentence(parts)))))));
+  const row = (cells) => make("tr", {}, cells.map((parts) => make("td", {}, sentence(parts))));
+  return make("div", {}, wide, growing(body, rows.map((cells) => () => row(cells))));
 }
 
 /** Gives an element some children; if there are many, only the first ones, and answers a button for the others. */

@@ -48,8 +48,8 @@ export class Wording {
   /** A link in words, with its name and those of its intervals. */
   link(number) {
     const { left, relation, right } = this.source.links[number];
-    const names = [code(left), ` ${relation} `, code(right)];
-    return [this.short(left), ` ${relation} `, this.short(right), " (", { link: number, called: this.source.called(number) }, ": ", ...names, ")"];
+    const names = [{ link: number, called: this.source.called(number) }, ": ", code(left), ` ${relation} `, code(right)];
+    return [this.short(left), ` ${relation} `, this.short(right), " (", ...names, ")"];
   }
 
   /** A relation between two intervals. */
@@ -79,7 +79,8 @@ export class Wording {
 
   /** A step of a walk, with its reason. */
   step({ kind, first, second }) {
-    if (kind === "span") return [...this.order({ from: 2 * first, to: 2 * first + 1, isStrict: true }), ", since an interval starts before it ends"];
+    const span = { from: 2 * first, to: 2 * first + 1, isStrict: true };
+    if (kind === "span") return [...this.order(span), ", since an interval starts before it ends"];
     if (kind === "calendar") return this.#calendar(first, second);
     const { left, relation, right } = this.source.links[first];
     return [...this.order(this.ordersOf(relation, left, right)[second]), ", since ", ...this.link(first)];
@@ -117,7 +118,8 @@ export class Wording {
   #secondOfLink({ first, second }) {
     const { left, relation, right } = this.source.links[first];
     const { from, to, isStrict } = this.ordersOf(relation, left, right)[second];
-    return [...this.point(from), isStrict ? " is at least one second before " : " is not after ", ...this.point(to), ", since ", ...this.link(first)];
+    const order = isStrict ? " is at least one second before " : " is not after ";
+    return [...this.point(from), order, ...this.point(to), ", since ", ...this.link(first)];
   }
 
   #secondOfLength(kind, name) {

@@ -75,7 +75,8 @@ async function contentOf(file, most) {
 /** A verdict as a value. */
 function verdictOf({ status, text }, bytes) {
   const line = textOf(text.subarray(0, 2000));
-  if (status === Status.DONE) return { kind: "accepted", counts: Object.fromEntries([...line.matchAll(COUNTS)].map(([, name, count]) => [name, Number(count)])) };
+  const counts = [...line.matchAll(COUNTS)].map(([, name, count]) => [name, Number(count)]);
+  if (status === Status.DONE) return { kind: "accepted", counts: Object.fromEntries(counts) };
   const [, number, name, offset] = line.match(/^fault (\d+) (\w+) (\d+)\n$/) ?? [];
   if (status === Status.DOC_FAULT && name) {
     return { kind: "fault", number: Number(number), name, offset: Number(offset), ...new Places(bytes).place(Number(offset)) };
@@ -112,7 +113,7 @@ async function query(tml, { key, file, command, words }) {
   const answered = command === "links" ? { status: Status.DONE, text: NOTHING_SAID } : tml.run([command, "first", ...words], bytes);
   const names = words.filter((_, index) => index === 0 || index === words.length - 1);
   const isEvidence = /^tml-(evidence|seconds) /.test(textOf(answered.text.subarray(0, 20)));
-  return { blocks: blocksOf(wording, command, answered, names), isClash: answered.status === Status.CLASH, evidence: isEvidence ? answered.text : null };
+  return { blocks: blocksOf(wording, command, answered, names), evidence: isEvidence ? answered.text : null };
 }
 
 /** What tml says of evidence about an accepted document. */

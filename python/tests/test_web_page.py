@@ -77,6 +77,11 @@ class Made(unittest.TestCase):
                 text, r"innerHTML|outerHTML|insertAdjacentHTML|document\.write|\beval\b|new Function|DOMParser", source.name
             )
 
+    def test_each_reason_of_a_refusal_is_put_into_words(self) -> None:
+        rows = re.findall(r"^\|[^|]*\| `([A-Z]\w+)(?: [A-Z])*` \|", text_at("docs/DEFINITIONS.md"), re.MULTILINE)
+        table = match_in(r"const REFUSALS = \{(.*?)\n\};", text_at("web/answers.mjs"), re.DOTALL)[1]
+        self.assertEqual(set(re.findall(r"^  (\w+): ", table, re.MULTILINE)), set(rows))
+
     def test_what_cannot_be_put_together(self) -> None:
         rows = [
             ({"worker.mjs": "export const a = 1;\nfunction a() {}\n"}, "the same name twice: a"),
