@@ -89,7 +89,7 @@ class Made(unittest.TestCase):
                 {"worker.mjs": 'import { b } from "./b.mjs";\nconst a = "</SCRIPT>";\n', "b.mjs": "export const b = 1;\n"},
                 "ends it too early",
             ),
-            ({"page.html": "<html></html>"}, "has not one line"),
+            ({"page.html": "<html></html>"}, "needs exactly one line"),
         ]
         for changed, said in rows:
             with self.subTest(said), tempfile.TemporaryDirectory() as held:

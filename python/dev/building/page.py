@@ -57,7 +57,7 @@ def page_of(module: bytes) -> bytes:
     }
     for name, place in PLACES.items():
         if page.count(place) != 1:
-            raise CannotMake(f"web/page.html has not one line {place}")
+            raise CannotMake(f"web/page.html needs exactly one line {place}")
         page = page.replace(place, made[name])
     return page.encode()
 
@@ -82,8 +82,9 @@ def digest(text: str) -> str:
 
 def inlined(element: str, attributes: str, text: str) -> str:
     """A style or a script in the page."""
-    if ENDS.search(text):
-        raise CannotMake(f"a {element} has {ENDS.search(text)}, which ends it too early")
+    end = ENDS.search(text)
+    if end is not None:
+        raise CannotMake(f"a {element} has {end[0]}, which ends it too early")
     return f"<{element}{attributes}>{text}</{element}>"
 
 
