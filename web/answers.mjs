@@ -21,7 +21,7 @@ const REFUSALS = {
   Weak: () => "none of its steps says before, and one has to",
   Cited: (k) => `link ${k} is cited and not used, or used and not cited`,
   Holds: () => "the relation holds in the timeline that is to be a counterexample",
-  Bound: (p) => `point ${p} is not where its date allows`,
+  Bound: (p) => `point ${p} lies outside of its date`,
   Length: (i) => `interval ${i} does not last as long as it says`,
   Sum: () => "its lines do not contradict each other",
 };
@@ -123,19 +123,19 @@ function relationOf(wording, claim) {
   return claim.kind === "entails" ? proof(wording, claim, relation) : counterexample(wording, claim, relation);
 }
 
-function proof(wording, { first, relation, second, walks }, words) {
+function proof(wording, { first, relation, second, walks }, related) {
   const orders = wording.ordersOf(relation, wording.names[first], wording.names[second]);
   const parts = orders.flatMap((order, index) => [
     heading(...capital(wording.order(order))),
     walks[index].length > 0 ? sentences(walks[index].map((step) => wording.step(step))) : paragraph("They are the same point."),
   ]);
-  return [paragraph(...words, " holds in every timeline that fits. The proof:"), ...parts];
+  return [paragraph(...related, " holds in every timeline that fits. The proof:"), ...parts];
 }
 
-function counterexample(wording, { first, relation, second, ends }, words) {
+function counterexample(wording, { first, relation, second, ends }, related) {
   const [found, names] = [baseOf(wording, ends[first], ends[second]), [wording.names[first], wording.names[second]]];
   return [
-    paragraph(...words, " does not follow: a timeline fits in which it is false."),
+    paragraph(...related, " does not follow: a timeline fits in which it is false."),
     paragraph("In this timeline: ", ...wording.related(names[0], found ?? `not ${relation}`, names[1]), "."),
     ranks(wording, "The counterexample, by ranks", ends),
   ];

@@ -63,7 +63,7 @@ export class DocumentView {
 
   /** Has evidence checked against the document, and shows and answers what tml says of it. */
   judge({ name, file }) {
-    return this.#ask(["Evidence: ", foreign(name)], "judge", { evidence: file }, "evidence");
+    return this.#query(["Evidence: ", foreign(name)], "judge", { evidence: file }, "evidence");
   }
 
   /** The result of a task about the document, or null if it was stopped, has failed or is no longer wanted. */
@@ -81,8 +81,8 @@ export class DocumentView {
     }
   }
 
-  /** Asks something, and shows the answer. */
-  async #ask(title, task, given, ending) {
+  /** Has a task done, and shows the answer. */
+  async #query(title, task, given, ending) {
     const found = await this.#run(this.#answer, "tml is at work …", task, given);
     if (!found) return null;
     const saving = found.evidence && this.#saving(found.evidence, ending);
@@ -128,7 +128,7 @@ export class DocumentView {
   #queries() {
     const buttons = QUERIES.map(([command, text, title]) => {
       const ending = command === "seconds" ? "seconds" : "evidence";
-      return button(text, () => this.#ask(title, "query", { command, words: [] }, ending), { "data-command": command });
+      return button(text, () => this.#query(title, "query", { command, args: [] }, ending), { "data-command": command });
     });
     const file = make("input", { type: "file", id: "evidence", hidden: true, "aria-label": "Evidence" });
     file.addEventListener("change", () => {
@@ -146,9 +146,9 @@ export class DocumentView {
     const [first, second] = ["first", "second"].map((id) => make("select", { id }, options()));
     second.selectedIndex = Math.min(1, intervals.length - 1);
     const relation = make("select", { id: "relation" }, Object.keys(this.#tables.orders).map((name) => make("option", {}, name)));
-    const ask = (command, title, words) => this.#ask(title, "query", { command, words }, "evidence");
-    const holds = () => ask("ask", "Does it hold?", [first.value, relation.value, second.value]);
-    const possible = () => ask("possible", "What is possible?", [first.value, second.value]);
+    const show = (command, title, args) => this.#query(title, "query", { command, args }, "evidence");
+    const holds = () => show("ask", "Does it hold?", [first.value, relation.value, second.value]);
+    const possible = () => show("possible", "What is possible?", [first.value, second.value]);
     const labelled = [["First", first], ["Relation", relation], ["Second", second]].map(([text, field]) => make("label", {}, text, field));
     const buttons = [
       button("Does it hold?", holds, { "data-command": "ask" }),

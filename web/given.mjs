@@ -56,7 +56,7 @@ async function inHandle(folder) {
   return children;
 }
 
-/** What a folder has, as other browsers say it: in lumps, of which the last is empty. */
+/** What a folder has, as other browsers say it: in lumps, the last of them empty. */
 async function inEntry(folder) {
   const reader = folder.createReader();
   const children = [];

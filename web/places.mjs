@@ -88,7 +88,7 @@ export class Places {
     return count;
   }
 
-  /** A line around a stretch, of which a long one is cut. */
+  /** A line around a stretch; a long line is cut. */
   #cut(from, until, start, end) {
     const stop = Math.min(end, until);
     const low = this.#beginning(Math.max(from, start - (start === until ? until - from : MOST_OF_LINE)));

@@ -84,7 +84,7 @@ export class Source {
     return this.places.around(start, end).filter(({ isMarked }) => isMarked);
   }
 
-  /** The text of the document around some tags, of which each is given by its start with what is to be said next to it. */
+  /** The text of the document around some tags, which are given by their starts, each with what is to be said next to it. */
   prose(notes) {
     const wanted = this.#around([...notes.keys()].sort((one, other) => one - other));
     const runs = [];

@@ -1,4 +1,4 @@
-// The worker of the page: it reads files and asks tml, one task after the other, so that the page itself never waits.
+// The worker of the page: it reads files and queries tml, one task after the other, so that the page itself never waits.
 import { load, Status } from "./tml.mjs";
 import { blocksOf, problemOf } from "./answers.mjs";
 import { checkerOf } from "./evidence.mjs";
@@ -84,7 +84,7 @@ function verdictOf({ status, text }, bytes) {
   return { kind: status === Status.TOO_LONG ? "too long" : "not judged", why: problemOf({ status, text }) };
 }
 
-/** What is shown of a document before anything is asked: its verdict, and the place of its fault or the names of its intervals. */
+/** What is shown of a document before any query: its verdict, and the place of its fault or the names of its intervals. */
 async function look(tml, { key, file }) {
   const bytes = await contentOf(file, tml.mostOfDocument);
   if (bytes === null) return { verdict: { kind: "unreadable" } };
@@ -106,12 +106,12 @@ function markedLines(tml, bytes, { number, offset }) {
 }
 
 /** What tml answers to a query about an accepted document, with evidence if it prints some. */
-async function query(tml, { key, file, command, words }) {
+async function query(tml, { key, file, command, args }) {
   if (held.key !== key) await look(tml, { key, file });
   if (held.key !== key) return { blocks: [], evidence: null };
   const { bytes, wording } = held;
-  const answered = command === "links" ? { status: Status.DONE, text: NOTHING_SAID } : tml.run([command, "first", ...words], bytes);
-  const names = words.filter((_, index) => index === 0 || index === words.length - 1);
+  const answered = command === "links" ? { status: Status.DONE, text: NOTHING_SAID } : tml.run([command, "first", ...args], bytes);
+  const names = args.filter((_, index) => index === 0 || index === args.length - 1);
   const isEvidence = /^tml-(evidence|seconds) /.test(textOf(answered.text.subarray(0, 20)));
   return { blocks: blocksOf(wording, command, answered, names), evidence: isEvidence ? answered.text : null };
 }

@@ -105,7 +105,7 @@ class Counted(unittest.TestCase):
     """Lines and columns, against those of the companions."""
 
     def test_places_are_those_of_the_companions(self) -> None:
-        drawn = [drawn_bytes(Random(f"places/{number}")) for number in range(150)]
+        drawn = [drawn_bytes(Random(f"places/{number}")) for number in range(60)]
         script = "\n".join(
             [
                 f'import {{ Places }} from {json.dumps(Path(TOP, "web/places.mjs").as_uri())};',
@@ -212,7 +212,7 @@ class PageTest(unittest.TestCase):
         )
         self.until(f"document.querySelector('#checking').hidden && {shown}")
 
-    def ask(self, command: str, *names: str) -> str:
+    def answer(self, command: str, *names: str) -> str:
         """The answer to a query."""
         for field, name in zip(("first", "relation", "second"), names, strict=False):
             self.value(f"document.querySelector('#{field}').value = {json.dumps(name)}")
@@ -280,15 +280,21 @@ class Given(PageTest):
         self.judged(2)
         self.assertEqual(self.texts("#verdicts .name"), ["pasted text 1", "pasted text 2 (with U+FFFD for half characters)"])
         self.assertEqual(self.texts("#verdicts tbody td:nth-child(2)"), ["fault", "accepted"])
+        self.value(
+            """(() => { const given = new DataTransfer(); given.items.add(new File(["<TimeML/>"], "copied.xml"));
+            document.body.dispatchEvent(new ClipboardEvent("paste", { clipboardData: given, bubbles: true })); })()"""
+        )
+        self.judged(3)
+        self.assertEqual(self.texts("#verdicts .name")[0], "copied.xml")
 
     def test_a_folder_in_a_table(self) -> None:
-        for number in range(250):
+        for number in range(130):
             self.write(f"corpus/{number}.xml", document(EVENT * (number % 2)))
         self.write("corpus/=1+1.xml", "")
         self.choose(self.folder / "corpus", field="#folder")
-        self.until("document.querySelector('#table .buttons').innerText.includes('1 to 100 of 251')")
+        self.until("document.querySelector('#table .buttons').innerText.includes('1 to 100 of 131')")
         self.until("document.querySelector('#checking').hidden")
-        self.assertEqual(self.text("#summary"), "251 documents: 250 accepted, 1 with a fault.")
+        self.assertEqual(self.text("#summary"), "131 documents: 130 accepted, 1 with a fault.")
         self.assertEqual(self.texts("#verdicts .name")[1:4], ["corpus/0.xml", "corpus/1.xml", "corpus/2.xml"])
         self.click("#verdicts thead th:nth-child(7) button")
         self.click("#verdicts thead th:nth-child(7) button")
@@ -362,7 +368,7 @@ class Said(PageTest):
     def test_a_clash_in_words(self) -> None:
         self.choose(PORT)
         self.judged()
-        self.ask("solve")
+        self.answer("solve")
         self.assertEqual(
             self.texts("#answer ul li"),
             [
@@ -388,16 +394,16 @@ class Said(PageTest):
     def test_queries(self) -> None:
         self.choose(RATES)
         self.judged()
-        self.assertIn("Wednesday (t1)\texactly\t1998-01-07T00:00:00\t1998-01-08T00:00:00", self.ask("dates"))
-        self.assertIn("l2\tspoke (ei2)\tIS_INCLUDED\tWednesday (t1)\t8", self.ask("links"))
-        self.assertIn("0\t4\tWednesday (t1)\n2\t3\tspoke (ei2)", self.ask("solve"))
-        self.assertIn("No link follows", self.ask("reduce"))
-        self.assertIn("Wednesday (t1)\t1998-01-07T00:00:00\t1998-01-08T00:00:00\t1 d", self.ask("seconds"))
-        self.assertIn("fell (ei1) BEFORE Jan 8 (t0) holds in every timeline that fits", self.ask("ask", "ei1", "BEFORE", "t0"))
+        self.assertIn("Wednesday (t1)\texactly\t1998-01-07T00:00:00\t1998-01-08T00:00:00", self.answer("dates"))
+        self.assertIn("l2\tspoke (ei2)\tIS_INCLUDED\tWednesday (t1)\t8", self.answer("links"))
+        self.assertIn("0\t4\tWednesday (t1)\n2\t3\tspoke (ei2)", self.answer("solve"))
+        self.assertIn("No link follows", self.answer("reduce"))
+        self.assertIn("Wednesday (t1)\t1998-01-07T00:00:00\t1998-01-08T00:00:00\t1 d", self.answer("seconds"))
+        self.assertIn("fell (ei1) BEFORE Jan 8 (t0) holds in every timeline that fits", self.answer("ask", "ei1", "BEFORE", "t0"))
         self.assertEqual(len(self.texts("#answer ol li")), 4)
-        self.assertIn("fell (ei1) AFTER Wednesday (t1) does not follow", self.ask("ask", "ei1", "AFTER", "t1"))
+        self.assertIn("fell (ei1) AFTER Wednesday (t1) does not follow", self.answer("ask", "ei1", "AFTER", "t1"))
         self.assertRegex(self.text("#answer"), r"In this timeline: fell \(ei1\) (?!AFTER)[A-Z_]+ Wednesday \(t1\)")
-        self.assertIn("5 relations are possible between fell (ei1) and Wednesday (t1)", self.ask("possible", "ei1", "BEFORE", "t1"))
+        self.assertIn("5 relations are possible between fell (ei1) and Wednesday (t1)", self.answer("possible", "ei1", "BEFORE", "t1"))
         self.assertEqual(len(self.texts("#answer details table")), 5)
 
     def test_redundant_links_and_a_cycle_of_seconds(self) -> None:
@@ -406,18 +412,18 @@ class Said(PageTest):
         )
         self.choose(self.write("more.xml", more))
         self.judged()
-        self.ask("reduce")
+        self.answer("reduce")
         self.assertEqual(self.texts("#answer li"), ["fell BEFORE Jan 8 (l3: ei1 BEFORE t0)"])
         self.browser.open(str(PAGE))
         self.choose(self.write("late.xml", text_at("samples/bridge.xml").replace("P2D", "P3D")))
         self.judged()
-        self.assertIn("There is no placing in whole seconds", self.ask("seconds"))
+        self.assertIn("There is no placing in whole seconds", self.answer("seconds"))
         self.assertRegex("\n".join(self.texts("#answer ol li")), r"\(t\d\) lasts no shorter than its value P3D says\.")
 
     def test_evidence_is_saved_and_checked(self) -> None:
         self.choose(PORT)
         self.judged()
-        self.ask("solve")
+        self.answer("solve")
         self.value("[...document.querySelectorAll('#answer button')].at(-1).click()")
         evidence = self.saved("port.evidence")
         self.assertTrue(evidence.startswith(b"tml-evidence 2\nclaims 1\nclash 4\n"))
@@ -437,6 +443,10 @@ class Said(PageTest):
         self.choose(RATES, PORT)
         self.until("document.querySelector('#evidence-list').textContent.split('accepted, for rates.xml').length === 3")
         self.assertEqual(self.text("#document h2"), "rates.xml")
+        self.browser.open(str(PAGE))
+        self.choose(rates[0], RATES)
+        self.until("document.querySelector('#evidence-list').textContent.includes('accepted, for rates.xml')")
+        self.assertEqual(self.texts("#answer li"), ["Some timeline fits the document."])
 
 
 class Used(PageTest):
@@ -447,7 +457,7 @@ class Used(PageTest):
         self.judged()
         self.value("document.querySelector('[data-command=solve]').click(); document.querySelector('#answer .stop').click()")
         self.until("document.querySelector('#answer').textContent === 'Stopped.'")
-        self.assertIn("A clash", self.ask("solve"))
+        self.assertIn("A clash", self.answer("solve"))
         self.value(
             """document.querySelector('#pasted').value = '<TimeML/>'; document.querySelector('#check-pasted').click();
         document.querySelector('#stop-checking').click()"""
@@ -475,7 +485,7 @@ class Used(PageTest):
             self.click(f"#verdicts tbody tr:nth-child({place}) .name")
             self.until("document.querySelector('#document p.verdict')")
             if self.value("document.querySelector('[data-command=solve]') !== null"):
-                self.assertIn("A clash", self.ask("solve"))
+                self.assertIn("A clash", self.answer("solve"))
                 self.assertIn("<img src=x onerror=alert(1)>", self.text("#answer .prose mark bdi"))
             self.assertEqual(self.value("document.querySelectorAll('img, main script').length"), 0)
             self.assertNotRegex(self.value("document.body.textContent"), "[\u202e\u2066\u0007\ufeff]")
@@ -508,7 +518,7 @@ class Used(PageTest):
             self.click(f"#verdicts tbody tr:nth-child({place}) .name")
             self.until(f"document.querySelector({json.dumps(mark)})")
             if place == 2:
-                self.ask("solve")
+                self.answer("solve")
             for width in (1280, 400):
                 resized(self.browser, width)
                 self.assertLessEqual(self.value("document.documentElement.scrollWidth"), width)

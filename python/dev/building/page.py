@@ -1,4 +1,4 @@
-"""The page tml.html: web/page.html with its style, its scripts, what they know by heart, and the module, so that one file has it all.
+"""The page tml.html: web/page.html with its style, its scripts, their tables, and the module, so that one file has it all.
 
 Editors know the sources as they are: a page, a style, and modules that import each other. A browser that opens a file from the disk loads
 no module next to it, so each script comes after those that it imports, without `import` and `export`. The sentences on faults, the orders
@@ -40,7 +40,7 @@ ENDS = re.compile(r"</(?:script|style)|<!--", re.IGNORECASE)
 
 
 def page_of(module: bytes) -> bytes:
-    """The page that asks this module."""
+    """The page that has this module."""
     page = (SOURCES / "page.html").read_text(encoding="utf-8")
     style, script = variables() + (SOURCES / "page.css").read_text(encoding="utf-8"), bundled("page.mjs")
     made = {
@@ -89,7 +89,7 @@ def inlined(element: str, attributes: str, text: str) -> str:
 
 
 def tables() -> dict[str, object]:
-    """What the scripts know by heart: the sentence on each fault, the orders of each relation, and a document to begin with."""
+    """The tables of the scripts: the sentence on each fault, the orders of each relation, and a document to begin with."""
     faults = {name: SENTENCES[number] for number, name in enumerate(FAULT_NAMES, 1)}
     return {"faults": faults, "orders": ORDERS, "base": BASE_RELATIONS, "example": EXAMPLE.read_text(encoding="utf-8")}
 
