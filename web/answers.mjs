@@ -6,10 +6,11 @@ import { code, said } from "./wording.mjs";
 
 const paragraph = (...parts) => ({ kind: "text", parts });
 const heading = (...parts) => ({ kind: "heading", parts });
-const list = (items) => ({ kind: "list", items });
-const sentences = (items) => ({ kind: "steps", items: items.map((parts) => capital([...parts, "."])) });
+const list = (numbers, toParts) => limited("list", numbers, toParts);
+const sentences = (found, toParts) => limited("steps", found, (one) => capital([...toParts(one), "."]));
 const table = (caption, head, rows) => ({ kind: "table", caption, head, rows });
 
+const MOST = 500; // items of a list that are put into words
 const REFUSALS = {
   Number: (n) => `${n} is the number of no interval or link of this document`,
   Size: (n) => `it has ${n} intervals, and this document has another number`,
@@ -127,7 +128,7 @@ function proof(wording, { first, relation, second, walks }, related) {
   const orders = wording.ordersOf(relation, wording.names[first], wording.names[second]);
   const parts = orders.flatMap((order, index) => [
     heading(...capital(wording.order(order))),
-    walks[index].length > 0 ? sentences(walks[index].map((step) => wording.step(step))) : paragraph("They are the same point."),
+    walks[index].length > 0 ? sentences(walks[index], (step) => wording.step(step)) : paragraph("They are the same point."),
   ]);
   return [paragraph(...related, " holds in every timeline that fits. The proof:"), ...parts];
 }
@@ -163,7 +164,7 @@ function redundant(wording, text) {
   const count = left.length === 1 ? "One link of" : `${left.length} links of`;
   return [
     paragraph(`${count} ${wording.source.links.length} can go, since the dates and the links that stay say the same:`),
-    list(left.map((number) => wording.link(number))),
+    list(left, (number) => wording.link(number)),
   ];
 }
 
@@ -182,7 +183,7 @@ function cycle(wording, { steps: found }) {
   const sorted = [...lines.slice(first), ...lines.slice(0, first)];
   return [
     paragraph("There is no placing in whole seconds: these cannot all be met."),
-    sentences(sorted.map((step) => wording.second(step))),
+    sentences(sorted, (step) => wording.second(step)),
     ...linksInText(wording, [...new Set(sorted.filter(({ kind }) => kind === "via").map((step) => step.first))]),
   ];
 }
@@ -194,9 +195,9 @@ function clash(wording, { cites, walk }) {
   const end = wording.step(walk[0]);
   return [
     paragraph(`A clash: ${count}, with the dates of the document.${others}`),
-    list(cites.map((number) => wording.link(number))),
+    list(cites, (number) => wording.link(number)),
     heading("Step by step"),
-    sentences(walk.map((step) => wording.step(step))),
+    sentences(walk, (step) => wording.step(step)),
     paragraph("The steps lead from a point back to it, so it would be before itself: ", ...begun(end), "."),
     ...linksInText(wording, cites),
   ];
@@ -221,13 +222,13 @@ function linksInText(wording, numbers) {
     heading("In the text"),
     { kind: "prose", runs },
     heading("In the source"),
-    { kind: "source", lines: numbers.flatMap((number) => source.sourceOf(number).map((line) => ({ ...line, link: number }))) },
+    { kind: "source", lines: numbers.slice(0, MOST).flatMap((number) => source.sourceOf(number)) },
   ];
 }
 
 function verified(wording, text) {
-  const items = text.trim().split("\n").map((line) => shownBy(wording, line.split(" ").slice(1)));
-  return [paragraph("Accepted. The evidence shows of this document:"), list(items)];
+  const lines = text.trim().split("\n");
+  return [paragraph("Accepted. The evidence shows of this document:"), list(lines, (line) => shownBy(wording, line.split(" ").slice(1)))];
 }
 
 /** What one claim shows. */
@@ -235,6 +236,11 @@ function shownBy(wording, [kind, ...rest]) {
   if (kind !== "clash") return SHOWN[kind](...rest);
   const links = rest.map(Number).flatMap((number, index) => [index > 0 ? "; " : "", ...wording.link(number)]);
   return ["These links cannot all be true, and without any one of them a timeline fits the others: ", ...links, "."];
+}
+
+/** A list of what is made of some things; if there are very many, of the first ones, and how many are left. */
+function limited(kind, found, toParts) {
+  return { kind, items: found.slice(0, MOST).map(toParts), left: Math.max(found.length - MOST, 0) };
 }
 
 /** A sentence with a capital at its beginning, if its beginning is of this page. */

@@ -92,10 +92,13 @@ export class Places {
   #cut(from, until, start, end) {
     const stop = Math.min(end, until);
     const low = this.#beginning(Math.max(from, start - (start === until ? until - from : MOST_OF_LINE)));
-    const part = (first, last) => textOf(this.#bytes.subarray(first, this.#beginning(Math.min(last, first + MOST_OF_LINE))));
+    const part = (first, last) => {
+      const whole = textOf(this.#bytes.subarray(first, this.#beginning(Math.min(last, first + MOST_OF_LINE))));
+      return last === until ? whole.replace(/[\r\n]+$/, "") : whole;
+    };
     const [before, marked, after] = [part(low, start), part(start, stop), part(stop, until)];
     const isCut = stop - start > MOST_OF_LINE || until - stop > MOST_OF_LINE || (start === until && until - low > MOST_OF_LINE);
-    return { before: (low > from ? "…" : "") + before, marked, after: after.replace(/[\r\n]+$/, "") + (isCut ? "…" : "") };
+    return { before: (low > from ? "…" : "") + before, marked, after: after + (isCut ? "…" : "") };
   }
 
   /** The first place from here on that is not within a character. */
@@ -108,7 +111,7 @@ export class Places {
 }
 
 /** The index of the last number that is not above this one; 0 if all are. The numbers rise. */
-function upTo(numbers, wanted) {
+export function upTo(numbers, wanted) {
   let [low, high] = [0, numbers.length];
   while (high - low > 1) {
     const middle = (low + high) >> 1;

@@ -1,5 +1,5 @@
 // A document that tml accepts: its tags as `tml spans` cuts it, its intervals and links as `tml check` names them, and its texts.
-import { Places, textOf } from "./places.mjs";
+import { Places, textOf, upTo } from "./places.mjs";
 
 const IDENTIFIERS = { EVENT: "eid", MAKEINSTANCE: "eiid", TIMEX3: "tid", TLINK: "lid" };
 const UNIT = /^(\d+) (\d+) (\w+)(?: (.*))?$/gm;
@@ -7,7 +7,7 @@ const ENTITIES = { lt: "<", gt: ">", amp: "&", quot: '"', apos: "'" };
 const LONGEST = 40;
 const AROUND = 240;
 const SHORT = 6000;
-const MOST_SHOWN = 24000;
+const MOST_SHOWN = 12000;
 const MOST_OF_VALUE = 2000; // bytes of a value that is shown
 
 /** A text on one line, and cut if it is long. */
@@ -36,6 +36,7 @@ export class Source {
   #last = null;
   #instances = new Map();
   #events = new Map();
+  #texts = new Map();
 
   /** Of the bytes of a document, and what tml prints for `spans` and `check`. */
   constructor(bytes, spans, check) {
@@ -48,9 +49,13 @@ export class Source {
     this.#nameIntervals();
   }
 
-  /** The text of an interval, or its value if it has none: nothing if it has neither. */
+  /** The text of an interval, or its value if it has none: nothing if it has neither. Each is found once. */
   textOf(name) {
-    const tag = this.tagOf(name);
+    if (!this.#texts.has(name)) this.#texts.set(name, this.#found(this.tagOf(name)));
+    return this.#texts.get(name);
+  }
+
+  #found(tag) {
     if (!tag) return "";
     return tag.kind === "empty" ? cut(this.value(tag, "value", MOST_OF_VALUE)) : this.#inside(tag);
   }
@@ -86,41 +91,48 @@ export class Source {
 
   /** The text of the document around some tags, which are given by their starts, each with what is to be said next to it. */
   prose(notes) {
-    const wanted = this.#around([...notes.keys()].sort((one, other) => one - other));
     const runs = [];
-    let range = 0;
-    for (let index = 0; index < this.#starts.length; index++) {
-      while (range < wanted.length && wanted[range][1] < this.#starts[index]) range++;
-      if (range === wanted.length) break;
-      this.#addRun(runs, index, wanted[range], notes);
-    }
+    for (const stretch of this.#around([...notes.keys()].sort((one, other) => one - other))) this.#addStretch(runs, stretch, notes);
+    const last = runs.at(-1);
+    if (last && (last.isCut || last.index < this.#starts.length - 1)) runs.push({ text: "", isGap: true });
     return runs.map(({ text, note, isGap }, index) => {
       const [isFirst, isLast, lined] = [index === 0, index === runs.length - 1, text.replace(/\s*\n\s*/g, "\n")];
       return { text: isFirst ? lined.trimStart() : isLast ? lined.trimEnd() : lined, note, isGap };
     });
   }
 
-  /** Adds to the runs what a range has of a text. */
-  #addRun(runs, index, [first, last], notes) {
-    const [start, end, owner] = [this.#starts[index], this.#ends[index], this.#owners[index]];
-    if (end < first) return;
-    const [from, to] = [this.#beginning(Math.max(start, first)), this.#beginning(Math.min(end, last))];
-    const text = owner?.kind === "empty" ? this.value(owner, "value", MOST_OF_VALUE) : unescaped(textOf(this.#bytes.subarray(from, to)));
-    const [note, previous] = [owner && notes.get(owner.start), runs.at(-1)];
-    const isAfterGap = from > start || index > (previous ? previous.index + 1 : 0);
-    if (isAfterGap) runs.push({ text: "", isGap: true, index });
-    if (previous && !isAfterGap && previous.note === note) Object.assign(previous, { text: previous.text + text, index });
-    else runs.push({ text, note, index });
+  /** Adds to the runs all texts of a stretch of the document. */
+  #addStretch(runs, [first, last], notes) {
+    for (let index = upTo(this.#starts, first); index < this.#starts.length && this.#starts[index] < last; index++) {
+      if (this.#ends[index] > first) this.#addRun(runs, index, [first, last], notes);
+    }
   }
 
-  /** Stretches of the document around some places, which do not overlap; a short document is one. */
+  /** Adds to the runs what a stretch has of a text, after a sign if something was left out before it. An empty tag has its value. */
+  #addRun(runs, index, [first, last], notes) {
+    const [start, end, owner, previous] = [this.#starts[index], this.#ends[index], this.#owners[index], runs.at(-1)];
+    const isEmpty = owner?.kind === "empty";
+    if (isEmpty && previous?.index === index) return;
+    const [from, to] = isEmpty ? [start, end] : [this.#beginning(Math.max(start, first)), this.#beginning(Math.min(end, last))];
+    const text = isEmpty ? this.value(owner, "value", MOST_OF_VALUE) : unescaped(textOf(this.#bytes.subarray(from, to)));
+    const isAfterGap = from > start || index > (previous ? previous.index + 1 : 0) || previous?.isCut;
+    const run = { text, note: owner && notes.get(owner.start), index, isCut: to < end };
+    if (isAfterGap) runs.push({ text: "", isGap: true, index }, run);
+    else if (previous && previous.note === run.note) Object.assign(previous, run, { text: previous.text + text });
+    else runs.push(run);
+  }
+
+  /** Stretches of the document around some places, which do not overlap, up to some length; a short document is one. */
   #around(places) {
     if (this.#bytes.length <= SHORT) return [[0, this.#bytes.length]];
     const found = [];
+    let left = MOST_SHOWN;
     for (const place of places) {
-      const [first, last] = [place - AROUND, place + 2 * AROUND];
-      if (found.length > 0 && first <= found.at(-1)[1]) found.at(-1)[1] = last;
-      else if (found.length * 3 * AROUND < MOST_SHOWN) found.push([first, last]);
+      const [first, last] = [Math.max(place - AROUND, found.at(-1)?.[1] ?? 0), place + 2 * AROUND];
+      left -= last - first;
+      if (left < 0) break;
+      if (first === found.at(-1)?.[1]) found.at(-1)[1] = last;
+      else found.push([first, last]);
     }
     return found;
   }

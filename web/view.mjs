@@ -21,8 +21,8 @@ export function block(one) {
 const BLOCKS = {
   text: ({ parts }) => make("p", {}, sentence(parts)),
   heading: ({ parts }) => make("h4", {}, sentence(parts)),
-  list: ({ items }) => listed("ul", items),
-  steps: ({ items }) => listed("ol", items),
+  list: ({ items, left }) => listed("ul", items, left),
+  steps: ({ items, left }) => listed("ol", items, left),
   details: ({ summary, blocks }) => make("details", {}, make("summary", {}, summary), blocks.map(block)),
   table: ({ caption, head, rows }) => tabled(caption, head, rows),
   prose: ({ runs }) => make("p", { class: "prose", dir: "auto" }, runs.map(run)),
@@ -48,9 +48,10 @@ function run({ text, note, isGap }) {
   return make("mark", {}, foreign(text), make("small", {}, ` ${called}`));
 }
 
-function listed(name, items) {
+function listed(name, items, left) {
   const list = make(name);
-  return make("div", {}, list, growing(list, items.map((parts) => () => make("li", {}, sentence(parts)))));
+  const more = left > 0 ? make("p", {}, `And ${left.toLocaleString("en")} more, which this page does not list.`) : null;
+  return make("div", {}, list, growing(list, items.map((parts) => () => make("li", {}, sentence(parts)))), more);
 }
 
 function tabled(caption, head, rows) {

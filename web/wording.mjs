@@ -11,12 +11,14 @@ export const code = (text) => ({ code: text });
 export class Wording {
   #orders;
   #dates;
+  #numbers;
 
   /** Of a source, the text of its dates, and the orders of each relation. */
   constructor(source, dates, orders) {
     this.source = source;
     this.#orders = orders;
     this.#dates = new Map(datesOf(dates).map((date) => [date.name, date]));
+    this.#numbers = new Map(source.intervals.map((name, number) => [name, number]));
   }
 
   get names() {
@@ -59,7 +61,7 @@ export class Wording {
 
   /** The orders of a relation between two intervals: from which point to which, and whether the one is before the other. */
   ordersOf(relation, first, second) {
-    const numbers = { A: 2 * this.names.indexOf(first), B: 2 * this.names.indexOf(second) };
+    const numbers = { A: 2 * this.#numbers.get(first), B: 2 * this.#numbers.get(second) };
     const pointOf = (text) => numbers[text[0]] + Number(text[1]);
     return this.#orders[relation].map((order) => ({ from: pointOf(order), to: pointOf(order.slice(3)), isStrict: order[2] === "<" }));
   }
