@@ -78,6 +78,7 @@ function stopped(error) {
   const why = error instanceof Stopped ? "Stopped" : error.message;
   part("stopped").hidden = false;
   part("stopped").firstElementChild.textContent = `${why}: ${counted(queue.length, "document")} not checked.`;
+  part("go-on").hidden = queue.length === 0;
   part("go-on").focus();
 }
 

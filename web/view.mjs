@@ -1,7 +1,7 @@
 // Blocks of an answer as elements of the page.
 import { button, foreign, make, shown } from "./elements.mjs";
 
-const MOST = 200; // items of a list before somebody wants more
+const MOST_AT_ONCE = 200; // items of a list before somebody wants more
 
 /** A sentence as elements. */
 export function sentence(parts) {
@@ -65,10 +65,10 @@ function tabled(caption, head, rows) {
 
 /** Gives an element some children; if there are many, only the first ones, and answers a button for the others. */
 function growing(parent, children) {
-  parent.append(...children.slice(0, MOST).map((child) => child()));
-  if (children.length <= MOST) return null;
+  parent.append(...children.slice(0, MOST_AT_ONCE).map((child) => child()));
+  if (children.length <= MOST_AT_ONCE) return null;
   const more = button(`Show all ${children.length}`, () => {
-    parent.append(...children.slice(MOST).map((child) => child()));
+    parent.append(...children.slice(MOST_AT_ONCE).map((child) => child()));
     more.remove();
   });
   return more;

@@ -21,12 +21,16 @@ const TASKS = { check: checkAll, look, query, judge };
 
 onmessage = ({ data }) => {
   if (data.module) {
-    started = load(data.module);
+    started = load(data.module).catch(cannotRun);
     tables = data.tables;
   } else {
     last = last.then(() => answer(data));
   }
 };
+
+function cannotRun({ message }) {
+  throw new Error(`this browser cannot run tml (${message})`);
+}
 
 /** Does a task, and says what became of it. */
 async function answer({ number, task, ...rest }) {
@@ -40,7 +44,7 @@ async function answer({ number, task, ...rest }) {
 
 /** Why something failed. */
 function reason(error) {
-  return error instanceof RangeError ? "The browser gives too little memory for this." : String(error);
+  return error instanceof RangeError ? "the browser gives too little memory for this" : error.message;
 }
 
 /** The verdicts on some files, told as they come. */

@@ -469,6 +469,15 @@ class Used(PageTest):
         self.judged(2)
         self.assertEqual(self.text("#summary"), "2 documents: 2 accepted.")
 
+    def test_a_browser_that_cannot_run_the_module(self) -> None:
+        path = self.write("other.html", page.page_of(b"no module"))
+        self.browser.open(str(path))
+        self.choose(PORT)
+        self.until("!document.querySelector('#stopped').hidden")
+        self.assertRegex(self.text("#stopped span"), r"^this browser cannot run tml \(.*\): 0 documents not checked\.$")
+        self.assertFalse(self.value("document.querySelector('#go-on').checkVisibility()"))
+        self.until("document.querySelector('#summary').textContent === '1 document: 1 not judged.'")
+
     def test_hostile_names_and_texts(self) -> None:
         events = '<EVENT eid="e1" class="STATE">{0}</EVENT><TIMEX3 tid="t1" type="SET" value="{0}"/>'
         escaped = HOSTILE.replace("&", "&amp;").replace("<", "&lt;").replace('"', "&quot;")
