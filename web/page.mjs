@@ -6,7 +6,8 @@ import { Runner, Stopped } from "./runner.mjs";
 import { VerdictTable } from "./table.mjs";
 
 const LUMP = 200; // files that are handed to the worker at once
-const PAUSE = 150; // milliseconds between two states of the table
+const PAUSE = 150; // milliseconds between two states of the table, at least
+const SHARE = 10; // times as long as it takes to draw one
 
 const part = (id) => document.getElementById(id);
 const tables = JSON.parse(part("tables").textContent);
@@ -19,7 +20,7 @@ const queue = [];
 const [checks, queries] = [new Runner(startWorker), new Runner(startWorker)];
 const table = new VerdictTable(part("table"), (key) => choose(documents.get(key), true));
 const view = new DocumentView(part("document"), queries, tables);
-let [given, pasted, isChecking, isDrawing] = [0, 0, false, false];
+let [given, pasted, isChecking, isDrawing, pause] = [0, 0, false, false, PAUSE];
 
 function startWorker() {
   const worker = new Worker(script);
@@ -39,23 +40,22 @@ function take(files) {
   draw();
 }
 
-/** Has all files of the queue judged, some at once. */
+/** Has all files of the queue judged, and then shows what there is to show. */
 async function check() {
   isChecking = true;
   part("stopped").hidden = true;
-  try {
-    while (queue.length > 0) {
-      const files = queue.slice(0, LUMP).map(({ key, file }) => ({ key, file }));
-      judged(await checks.run("check", { files }, judged));
-      draw();
-    }
-    isChecking = false;
-    draw();
-    await settle();
-  } catch (error) {
-    isChecking = false;
-    if (!(error instanceof Stopped)) judged([{ key: queue[0].key, verdict: { kind: "not judged", why: [error.message] } }]);
-    stopped(error);
+  const error = await emptied().then(() => null, (reason) => reason);
+  isChecking = false;
+  draw();
+  if (error) stopped(error);
+  else await settle();
+}
+
+/** Has all files of the queue judged, some at once. */
+async function emptied() {
+  while (queue.length > 0) {
+    const files = queue.slice(0, LUMP).map(({ key, file }) => ({ key, file }));
+    judged(await checks.run("check", { files }, judged));
   }
 }
 
@@ -72,10 +72,11 @@ function judged(found) {
   draw();
 }
 
-/** Says why files were not judged, and offers to go on. */
+/** Says why files were not judged, and offers to go on. Whatever has failed has failed with the first of them. */
 function stopped(error) {
-  draw();
-  const why = error instanceof Stopped ? "Stopped" : error.message;
+  const isWanted = error instanceof Stopped;
+  if (!isWanted && queue.length > 0) judged([{ key: queue[0].key, verdict: { kind: "not judged", why: [error.message] } }]);
+  const why = isWanted ? "Stopped" : error.message;
   part("stopped").hidden = false;
   part("stopped").firstElementChild.textContent = `${why}: ${counted(queue.length, "document")} not checked.`;
   part("go-on").hidden = queue.length === 0;
@@ -115,8 +116,10 @@ function draw() {
   isDrawing = true;
   setTimeout(() => {
     isDrawing = false;
+    const since = performance.now();
     drawNow();
-  }, isChecking ? PAUSE : 0);
+    pause = Math.max(PAUSE, SHARE * (performance.now() - since));
+  }, isChecking ? pause : 0);
 }
 
 function drawNow() {

@@ -12,7 +12,7 @@ const COLUMNS = [
   ["fault", ({ verdict }) => (verdict?.kind === "fault" ? `${verdict.number} ${verdict.name}` : "")],
   ["line", ({ verdict }) => verdict?.line ?? null],
   ["column", ({ verdict }) => verdict?.column ?? null],
-  ["bytes", ({ file }) => file.size],
+  ["bytes", ({ verdict }) => verdict?.size ?? null],
   ["events", ({ verdict }) => verdict?.counts?.events ?? null],
   ["times", ({ verdict }) => verdict?.counts?.timex ?? null],
   ["links", ({ verdict }) => verdict?.counts?.tlinks ?? null],

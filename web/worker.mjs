@@ -51,7 +51,9 @@ function reason(error) {
 async function checkAll(tml, { files }, tell) {
   let [found, since] = [[], Date.now()];
   for (const { key, file } of files) {
-    found.push({ key, verdict: await checked(tml, file).catch((error) => ({ kind: "not judged", why: [reason(error)] })) });
+    const verdict = await checked(tml, file).catch((error) => ({ kind: "not judged", why: [reason(error)] }));
+    // The page itself reads no sizes, since the browser looks each of them up while the page waits.
+    found.push({ key, verdict: { ...verdict, size: file.size } });
     if (Date.now() - since < PAUSE) continue;
     tell(found);
     [found, since] = [[], Date.now()];
