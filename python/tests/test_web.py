@@ -99,7 +99,7 @@ class Build(unittest.TestCase):
         held = tempfile.TemporaryDirectory(prefix="web build-")
         self.addCleanup(held.cleanup)
         self.top = Path(os.path.realpath(held.name))
-        for folder in ("tools/web", "web", "python/src", "python/dev/building"):
+        for folder in ("tools/web", "web", "samples", "python/src", "python/dev/building"):
             shutil.copytree(os.path.join(TOP, folder), self.top / folder, ignore=shutil.ignore_patterns("__pycache__"))
         (self.top / "crates.txt").write_text("low:\ntml_c staticlib: low\n", encoding="utf-8")
         for name in ("low", "tml_c"):
@@ -132,10 +132,10 @@ cp {given} module.bc; "$2/bin/clang" -S -emit-llvm -x ir module.bc -o module.ll"
 
     @needs_module
     def test_the_same_bytes_at_another_place(self) -> None:
-        made = self.top / "made/here"
+        made, names = self.top / "made/here", ("tml.wasm", "tml.mjs", "tml.d.mts", "tml.html")
         status, said, told = self.build(self.handing(MODULE))
-        self.assertEqual((status, said, told), (0, [f"{made}/{name}" for name in ("tml.wasm", "tml.mjs", "tml.d.mts")], []))
-        for name in ("tml.wasm", "tml.mjs", "tml.d.mts"):
+        self.assertEqual((status, said, told), (0, [f"{made}/{name}" for name in names], []))
+        for name in names:
             self.assertEqual((made / name).read_bytes(), (FOLDER / name).read_bytes(), f"{FOLDER} is to be made anew: {name}")
 
     def test_what_is_not_proved(self) -> None:

@@ -1,4 +1,4 @@
-"""Makes tml for browsers and for Node: DIR/tml.wasm, DIR/tml.mjs and DIR/tml.d.mts.
+"""Makes tml for browsers and for Node: DIR/tml.wasm, DIR/tml.mjs and DIR/tml.d.mts, and DIR/tml.html, a page that works from the disk.
 
 The module is what the proof's own build of the crate tml_c hands to its compiler, compiled once more by the compiler of the kit: for
 WebAssembly, with the heap, the memory and the shuffle of web/. It asks its host for nothing. The crate is proved and compiled before, as
@@ -23,6 +23,7 @@ from pathlib import Path
 from building.compiling import TOP, module_of
 from building.library import written
 from building.linking import CannotMake, folder_of_kit, run
+from building.page import NAME, page_of
 from tml_corpus import VERSION
 
 SOURCES = TOP / "web"
@@ -56,7 +57,8 @@ def main(words: list[str]) -> int:
     try:
         need_programs()
         kit = folder_of_kit()
-        contents = {"tml.wasm": made(kit, module_of(kit)), **{name: (SOURCES / name).read_bytes() for name in HANDED_OUT}}
+        module = made(kit, module_of(kit))
+        contents = {"tml.wasm": module, **{name: (SOURCES / name).read_bytes() for name in HANDED_OUT}, NAME: page_of(module)}
         folder.mkdir(parents=True, exist_ok=True)
         for name, content in contents.items():
             print(written(folder / name, content))

@@ -1,0 +1,133 @@
+// The worker of the page: it reads files and queries tml, one task after the other, so that the page itself never waits.
+import { load, Status } from "./tml.mjs";
+import { blocksOf, problemOf } from "./answers.mjs";
+import { checkerOf } from "./evidence.mjs";
+import { Places, textOf } from "./places.mjs";
+import { Source } from "./source.mjs";
+import { Wording } from "./wording.mjs";
+
+const COUNTS = /^(events|instances|timex|signals|tlinks|alinks|slinks) (\d+)$/gm;
+const PAUSE = 60; // milliseconds between reports
+const CHECKED_BY_SPANS = 3; // faults up to this number are those that `spans` finds too
+const NOTHING_SAID = new Uint8Array(0);
+
+let started = null;
+let tables = null;
+let held = { key: null };
+let last = Promise.resolve();
+
+/** The tasks by their names. */
+const TASKS = { check: checkAll, look, query, judge };
+
+onmessage = ({ data }) => {
+  if (data.module) {
+    started = load(data.module).catch(cannotRun);
+    tables = data.tables;
+  } else {
+    last = last.then(() => answer(data));
+  }
+};
+
+function cannotRun({ message }) {
+  throw new Error(`this browser cannot run tml (${message})`);
+}
+
+/** Does a task, and says what became of it. */
+async function answer({ number, task, ...rest }) {
+  try {
+    const tml = await started;
+    postMessage({ number, done: await TASKS[task](tml, rest, (part) => postMessage({ number, part })) });
+  } catch (error) {
+    postMessage({ number, failed: reason(error) });
+  }
+}
+
+/** Why something failed. */
+function reason(error) {
+  return error instanceof RangeError ? "the browser gives too little memory for this" : error.message;
+}
+
+/** The verdicts on some files, told as they come. */
+async function checkAll(tml, { files }, tell) {
+  let [found, since] = [[], Date.now()];
+  for (const { key, file } of files) {
+    const verdict = await checked(tml, file).catch((error) => ({ kind: "not judged", why: [reason(error)] }));
+    // The page itself reads no sizes, since the browser looks each of them up while the page waits.
+    found.push({ key, verdict: { ...verdict, size: file.size } });
+    if (Date.now() - since < PAUSE) continue;
+    tell(found);
+    [found, since] = [[], Date.now()];
+  }
+  return found;
+}
+
+/** The verdict on a file: what tml says of it, or that it is evidence or cannot be read. */
+async function checked(tml, file) {
+  const bytes = await contentOf(file, tml.mostOfDocument);
+  if (bytes === null) return { kind: "unreadable" };
+  const command = checkerOf(bytes);
+  return command ? { kind: "evidence", command } : verdictOf(tml.run(["check", "first"], bytes), bytes);
+}
+
+/** What a file holds, up to one byte more than so many, or null if it cannot be read. */
+async function contentOf(file, most) {
+  try {
+    return new Uint8Array(await file.slice(0, most + 1).arrayBuffer());
+  } catch {
+    return null;
+  }
+}
+
+/** A verdict as a value. */
+function verdictOf({ status, text }, bytes) {
+  const line = textOf(text.subarray(0, 2000));
+  const counts = [...line.matchAll(COUNTS)].map(([, name, count]) => [name, Number(count)]);
+  if (status === Status.DONE) return { kind: "accepted", counts: Object.fromEntries(counts) };
+  const [, number, name, offset] = line.match(/^fault (\d+) (\w+) (\d+)\n$/) ?? [];
+  if (status === Status.DOC_FAULT && name) {
+    return { kind: "fault", number: Number(number), name, offset: Number(offset), ...new Places(bytes).place(Number(offset)) };
+  }
+  return { kind: status === Status.TOO_LONG ? "too long" : "not judged", why: problemOf({ status, text }) };
+}
+
+/** What is shown of a document before any query: its verdict, and the place of its fault or the names of its intervals. */
+async function look(tml, { key, file }) {
+  const bytes = await contentOf(file, tml.mostOfDocument);
+  if (bytes === null) return { verdict: { kind: "unreadable" } };
+  const answered = tml.run(["check", "first"], bytes);
+  const verdict = verdictOf(answered, bytes);
+  if (verdict.kind === "fault") return { verdict, lines: markedLines(tml, bytes, verdict) };
+  if (verdict.kind !== "accepted") return { verdict };
+  const source = new Source(bytes, textOf(tml.run(["spans", "first"], bytes).text), textOf(answered.text));
+  const wording = new Wording(source, textOf(tml.run(["dates", "first"], bytes).text), tables.orders);
+  held = { key, bytes, wording: Object.assign(wording, { base: tables.base }) };
+  return { verdict, intervals: source.intervals.map((name) => ({ name, text: source.textOf(name) })), links: source.links.length };
+}
+
+/** The lines around a fault, with the tag or the character that is at fault. */
+function markedLines(tml, bytes, { number, offset }) {
+  const spans = number > CHECKED_BY_SPANS ? textOf(tml.run(["spans", "first"], bytes).text) : "";
+  const [, end] = spans.match(new RegExp(`^${offset} (\\d+) (?:start|end|empty|text|comment|declaration|doctype)`, "m")) ?? [];
+  return new Places(bytes).around(offset, Math.min(end ? Number(end) : offset + 1, bytes.length));
+}
+
+/** What tml answers to a query about an accepted document, with evidence if it prints some. */
+async function query(tml, { key, file, command, args }) {
+  if (held.key !== key) await look(tml, { key, file });
+  if (held.key !== key) return { blocks: [], evidence: null };
+  const { bytes, wording } = held;
+  const answered = command === "links" ? { status: Status.DONE, text: NOTHING_SAID } : tml.run([command, "first", ...args], bytes);
+  const names = args.filter((_, index) => index === 0 || index === args.length - 1);
+  const isEvidence = /^tml-(evidence|seconds) /.test(textOf(answered.text.subarray(0, 20)));
+  return { blocks: blocksOf(wording, command, answered, names), evidence: isEvidence ? answered.text : null };
+}
+
+/** What tml says of evidence about an accepted document. */
+async function judge(tml, { key, file, evidence }) {
+  if (held.key !== key) await look(tml, { key, file });
+  const given = await contentOf(evidence, tml.mostOfEvidence);
+  if (held.key !== key || given === null) return { blocks: [{ kind: "text", parts: ["The evidence cannot be read."] }], evidence: null };
+  const command = checkerOf(given) ?? "verify";
+  const answered = tml.run([command, "first", "second"], held.bytes, given);
+  return { blocks: blocksOf(held.wording, command, answered, []), isRefused: answered.status !== Status.DONE, evidence: null };
+}
