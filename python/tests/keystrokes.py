@@ -1,8 +1,8 @@
 """Slips of one key in clean documents, and what `tml-corpus fix` makes of them.
 
-`python3 python/tests/keystrokes.py 10000 7` makes so many slips with the seed 7, and prints what came of them in each style, and every
-damage. With `--two` each document has two slips in different tags, with `--wide` two characters are wrong at one place. The slips know the
-keyboard, and nothing of the package that undoes them.
+`python3 python/tests/keystrokes.py 10000 7` makes so many slips with the seed 7, half of them in documents of `strange.py`, and prints what
+came of them in each style, and every damage. With `--two` each document has two slips in different tags, with `--wide` two characters are
+wrong at one place. The slips know the keyboard, and nothing of the package that undoes them.
 """
 
 from __future__ import annotations
@@ -16,6 +16,7 @@ from dataclasses import dataclass, field
 from random import Random
 
 from corpus import by_library
+from strange import strange
 from tml.tags.edits import applied
 from tml_corpus.asking.program import Program
 from tml_corpus.check.fix import Fixed, mended
@@ -142,7 +143,7 @@ def slips(program: Program, random: Random, text: str, how: str) -> list[str]:
 
 def cases(program: Program, count: int, seed: int, how: str) -> Iterator[tuple[str, str, list[str]]]:
     """So many slips: the style, the original, and the document with its slips, followed by those with one slip fewer."""
-    styles = list(STYLES.items())
+    styles = [style for one in STYLES.items() for style in (one, ("strange", strange))]
     for number in range(count):
         random = Random(f"{seed} {number}")
         style, write = styles[number % len(styles)]

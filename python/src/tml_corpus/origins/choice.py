@@ -7,17 +7,21 @@ from bisect import bisect_left, bisect_right
 from collections import Counter, defaultdict
 from collections.abc import Callable, Iterator, Sequence
 from dataclasses import dataclass, field
+from functools import cached_property
+from itertools import product
 
 from tml.explaining.attributes import OTHER_RELATIONS, SAME_RELATIONS, UNCLEAR_RELATIONS
 from tml.explaining.faults import Fault
-from tml.tags.profile import IDENTIFIERS, ROOT, TABLE, WRAPPERS, Kind
+from tml.tags.profile import LINK_TAGS, ROOT, TABLE, WRAPPERS, Kind
+from tml.tags.values import has_form
 
-from .draft import SPACE, Draft, Tag, tags_of
+from .draft import NAME, SPACE, Draft, Tag, tags_of
 from .keyboard import MEANT, Slip
 from .search import NOT_TEXT, Check, Origin, Search
 
-BARE = (ROOT, "DOC", "BODY", "DCT")
-"""The tags that mostly have no text of their own."""
+BETWEEN = "between links"
+BARE = (ROOT, "DOC", "BODY", "DCT", BETWEEN)
+"""The places that mostly have no text: tags that hold others, and what is between links."""
 
 MEANT_ELSEWHERE = OTHER_RELATIONS.keys() | SAME_RELATIONS.keys() | UNCLEAR_RELATIONS.keys()
 """Relations of other schemes."""
@@ -26,18 +30,20 @@ MOST_COMPARED, MOST_READ = 400, 4 << 20
 """Of more origins, or of origins that are further apart so that more characters are compared, none is set aside."""
 
 IN_TEXT = ("markup in text", "slash", "bare text")
-BLEMISHES = (*IN_TEXT, "spaced value", "nested", "shape", "identifier", "gap")
+BLEMISHES = (*IN_TEXT, "odd value", "nested", "shape", "name", "tag", "identifier", "gap")
 """What a document would hardly have, the worst first. Only the first three set an origin aside that has another text: what is usual next
 to other tags says nothing of a letter or a sign. The last one does so only if origins differ in white space alone."""
 
 EDGE = re.compile("[<>\"']")
-SIGN = re.compile("(?<!(?<!-)[-=])>")
-"""A `>` in a text that is not the head of an arrow."""
+SIGN = re.compile("(?<!(?<!-)[-=])(?<![^\\s\"'/]\\s)>|!--")
+"""A `>` in a text that is neither the head of an arrow nor between words, or the beginning of a comment."""
 
 MOST_SPACES = 64
 """How much white space before a tag is compared at most."""
 
 AFTER, BEFORE = re.compile(r"(?P<run>\s*+)(?P<next>\S)"), re.compile(r"(?P<next>\S)(?P<run>\s*+)\Z")
+ODD = re.compile(r"\A[\s\"'=]|[\s\"']\Z|=\s*[\"']")
+BEGINNING = re.compile(f"</?({NAME})")
 SPACED_END = re.compile(rf"{SPACE}/?>\Z")
 
 
@@ -65,6 +71,16 @@ def chosen(draft: Draft, fault: Fault, check: Check) -> Restored | Question | No
     return Choice(draft, found).result() if found else None
 
 
+def shape(identifier: str) -> str:
+    """An identifier whatever its numbers are."""
+    return re.sub(r"\d+", "0", identifier)
+
+
+def outline(identifier: str) -> str:
+    """An identifier whatever its numbers and letters are."""
+    return re.sub(r"[^\W\d_]+", "a", shape(identifier))
+
+
 @dataclass
 class Likeness:
     """How tags of one name and kind are written: how many there are, and what is before, after and between them."""
@@ -72,8 +88,8 @@ class Likeness:
     count: int = 0
     lefts: set[tuple[bool, bool] | None] = field(default_factory=set)
     rights: set[tuple[bool, bool] | None] = field(default_factory=set)
-    gaps: set[tuple[str, str]] = field(default_factory=set)
-    letters: Counter[str] = field(default_factory=Counter)
+    gaps: set[tuple[str, str, str]] = field(default_factory=set)
+    attributes: set[str] = field(default_factory=set)
     is_spaced: bool = False
     """Whether there is white space before the `>` of one."""
 
@@ -83,7 +99,7 @@ class Likeness:
         self.lefts.add(kind_of(text[tag.start - 1 : tag.start]))
         self.rights.add(kind_of(text[tag.end : tag.end + 1]))
         self.gaps.update(gaps(tag, text))
-        self.letters[letters(tag)] += 1
+        self.attributes.update(name for name, _ in tag.pairs)
         self.is_spaced |= SPACED_END.search(text, tag.start, tag.end) is not None
 
 
@@ -93,12 +109,32 @@ class Style:
 
     by_name: defaultdict[str, defaultdict[str, Likeness]] = field(default_factory=lambda: defaultdict(lambda: defaultdict(Likeness)))
     """For each name and each kind of tag."""
-    by_kind: defaultdict[tuple[str, bool], Likeness] = field(default_factory=lambda: defaultdict(Likeness))
-    """For each kind of tag, and whether TimeML has the tag or it is a wrapper."""
+    by_kind: defaultdict[tuple[str, str], Likeness] = field(default_factory=lambda: defaultdict(Likeness))
+    """For each kind of tag, and what it is for."""
+    identifiers: defaultdict[str, list[str]] = field(default_factory=lambda: defaultdict(list))
     with_text: set[str] = field(default_factory=set)
-    """The names of tags that have text of their own."""
+    """The places that have text: names of tags, or between links."""
+    nested: set[str] = field(default_factory=set)
+    """The names of tags that are within one of the same name."""
     has_slash: bool = False
-    """Whether there is a slash in the text."""
+    """Whether there is a slash before an end tag."""
+    has_sign: bool = False
+    """Whether there is a `>` in the text."""
+
+    @cached_property
+    def shapes(self) -> dict[str, tuple[Callable[[str], str], set[str]]]:
+        """For each name how its identifiers are alike, if they are, and what they have in common."""
+        found = {}
+        for (name, known), how in product(self.identifiers.items(), (outline, shape)):
+            alike = {how(one) for one in known}
+            if 2 * len(alike) <= len(known):
+                found[name] = how, alike
+        return found
+
+    def has_other_shape(self, tag: Tag) -> bool:
+        """Whether the identifier of a tag is not like those of the other tags of its name."""
+        how, alike = self.shapes.get(tag.name, (shape, set()))
+        return tag.identifier() != "" and len(alike) > 0 and how(tag.identifier()) not in alike
 
 
 def kind_of(character: str) -> tuple[bool, bool] | None:
@@ -106,23 +142,45 @@ def kind_of(character: str) -> tuple[bool, bool] | None:
     return (character.isdigit(), character.isupper()) if character.isalnum() else None
 
 
-def letters(tag: Tag) -> str:
-    """The letters with which the identifier of a tag begins."""
-    found = re.match(r"[^\W\d_]*", tag.identifier())
-    return found[0] if found else ""
+def is_odd(tag: str, name: str, value: str) -> bool:
+    """Whether a value of an attribute of a tag has a sign that no value has there, or is no value of a time."""
+    return ODD.search(value) is not None or (tag == "TIMEX3" and name == "value" and not has_form(value))
 
 
-def shape(identifier: str) -> str:
-    """An identifier whatever its numbers are."""
-    return re.sub(r"\d+", "0", identifier)
+def in_order(text: str) -> str:
+    """A text with single spaces for the white space in its comments and declarations."""
+    return NOT_TEXT.sub(lambda found: " ".join(found[0].split()), text)
 
 
-def gaps(tag: Tag, text: str) -> Iterator[tuple[str, str]]:
-    """The white space before and after a tag, or whether a letter or digit is next to it; nothing at the end of the text."""
+def texts(part: str) -> list[str]:
+    """What is before, between and after the tags of a part."""
+    tags = list(tags_of(part))
+    return [part[start:end] for start, end in zip([0, *(tag.end for tag in tags)], [*(tag.start for tag in tags), len(part)], strict=True)]
+
+
+def place_of(inner: str, before: str, after: str) -> str:
+    """Where a text is, by the name of the innermost tag around it and the names of the tags before and after it."""
+    return BETWEEN if before in LINK_TAGS and after in (*LINK_TAGS, ROOT) else inner
+
+
+def gaps(tag: Tag, text: str) -> Iterator[tuple[str, str, str]]:
+    """The side, what is next there, and the white space between, or whether a letter or digit is there; nothing at the end of the text."""
     around = ("before", BEFORE.search(text, max(tag.start - MOST_SPACES, 0), tag.start)), ("after", AFTER.match(text, tag.end))
     for side, found in around:
         if found is not None:
-            yield side, found["run"] or ("letter" if found["next"].isalnum() else "")
+            place = text.rfind("<", 0, tag.start) if found["next"] == ">" else found.start("next")
+            yield side, next_to(text, place), found["run"] or ("letter" if found["next"].isalnum() else "")
+
+
+def next_to(text: str, place: int) -> str:
+    """What begins at a place: text, or a tag for something."""
+    found = BEGINNING.match(text, max(place, 0))
+    return "text" if found is None else purpose(found[1])
+
+
+def purpose(name: str) -> str:
+    """What a tag is for."""
+    return "link" if name in LINK_TAGS else "mark" if name in TABLE else "wrapper"
 
 
 class Choice:
@@ -131,26 +189,32 @@ class Choice:
     def __init__(self, draft: Draft, origins: Sequence[Origin]) -> None:
         self.draft, self.origins = draft, origins
         self.low, self.high = min(one.start for one in origins), max(one.end for one in origins)
+        self.touched = sorted({place for one in origins for place in range(one.keystroke.start - 1, one.keystroke.end + 2)})
         self.style = self.style_elsewhere()
+        first, last = min(one.keystroke.start for one in origins), max(one.keystroke.end for one in origins)
+        self.calm_names = draft.calm_names(self.low, self.high, first, last - 1)
 
     def style_elsewhere(self) -> Style:
         """The style of the tags that no origin touches."""
-        touched = sorted({place for one in self.origins for place in range(one.keystroke.start - 1, one.keystroke.end + 2)})
-        style, path, last = Style(), list[str](), 0
-        for tag in self.draft.tags:
-            calm = [bisect_left(touched, start) == bisect_right(touched, end) for start, end in ((last, tag.start), (tag.start, tag.end))]
-            text = NOT_TEXT.sub("", self.draft.text[last : tag.start]) if path and all(calm) else ""
-            style.with_text.update(path[-1:] if text.strip() else ())
-            style.has_slash |= "/" in text
+        style, last, before = Style(), 0, ""
+        for number, tag in enumerate(self.draft.tags):
+            path = (self.draft.before if tag.start <= self.low else self.draft.needed)[number]
+            calm = [self.is_calm(last, tag.start), self.is_calm(tag.start, tag.end)]
+            text = NOT_TEXT.sub("", self.draft.text[last : tag.start]) if path > 0 and all(calm) else ""
+            style.with_text.update({place_of(self.draft.above[path][1], before, tag.name)} if text.strip() else ())
+            style.has_slash |= text.endswith("/") and tag.kind == "end"
+            style.has_sign |= SIGN.search(text) is not None
             if calm[1]:
                 style.by_name[tag.name][tag.kind].learn(tag, self.draft.text)
-                style.by_kind[tag.kind, tag.name in TABLE].learn(tag, self.draft.text)
-            if tag.kind == "start":
-                path.append(tag.name)
-            elif tag.kind == "end" and path:
-                path.pop()
-            last = tag.end
+                style.by_kind[tag.kind, purpose(tag.name)].learn(tag, self.draft.text)
+                style.identifiers[tag.name].extend(filter(None, [tag.identifier()]))
+                style.nested.update({tag.name} if tag.kind == "start" and tag.name in self.draft.names(path) else ())
+            last, before = tag.end, tag.name
         return style
+
+    def is_calm(self, first: int, last: int) -> bool:
+        """Whether no origin touches any place from the first to the last one."""
+        return bisect_left(self.touched, first) == bisect_right(self.touched, last)
 
     def result(self) -> Restored | Question:
         """The origin that is left, or those of each meaning; none if they are too far apart for a comparison."""
@@ -158,11 +222,9 @@ class Choice:
             return Question()
         keys = [one.keystroke for one in self.origins]
         exchanged = {key.start for key in keys if key.slip is Slip.EXCHANGED and EDGE.search(key.text)}
-        struck = {key.start for key in keys if key.slip is Slip.STRUCK}
-        struck |= {place + 1 for place in struck if self.draft.text[place] == self.draft.text[place + 1 : place + 2]}
         groups: dict[str, list[Origin]] = {}
         for origin in self.origins:
-            if not self.is_chance(origin, exchanged, struck):
+            if not self.is_chance(origin, exchanged):
                 groups.setdefault(self.meaning(origin), []).append(origin)
         left = list(groups.values())
         if len(self.origins) <= MOST_COMPARED:
@@ -170,21 +232,20 @@ class Choice:
         best = [min(group, key=lambda origin: (self.own_blemishes(origin).total(), len(origin.stretch))) for group in left]
         blemishes = [self.own_blemishes(origin) for origin in best]
         likely = tuple(origin for origin, found in zip(best, blemishes, strict=True) if not found)
-        rivals = tuple(origin for origin in self.origins if len(best) == 1 and self.are_rivals(best[0], origin))
+        rivals = tuple(one for one in self.origins if len(best) == 1 and self.are_rivals(best[0], one))
         if len(best) == len(likely) == 1 and not rivals:
             return Restored(best[0])
         likely += rivals
         unlikely = [origin for origin, found in zip(best, blemishes, strict=True) if found and not found["markup in text"]]
         return Question(likely, tuple(unlikely))
 
-    def is_chance(self, origin: Origin, exchanged: set[int], struck: set[int]) -> bool:
+    def is_chance(self, origin: Origin, exchanged: set[int]) -> bool:
         """Whether an origin needs a chance if two characters may have been exchanged at the edge of a tag or value, by the places of the
-        first of them: a finger struck a far key for nothing, or the character that was lost is also the next one. Or if a character may
-        be one too many, by its places: a letter that was struck twice, or next to its own key, was exchanged and is no part of a word."""
+        first of them: a finger struck a far key for nothing, or the character that was lost is also the next one. Or if the last letter of
+        an end tag may have been struck twice: then it would be alone in the text."""
         key, text = origin.keystroke, self.draft.text
-        if key.slip is Slip.EXCHANGED and key.start in exchanged:
-            letters = [place for place in (key.start, key.start + 1) if place in struck and text[place].isalnum()]
-            return any(not self.is_far(place) and not self.is_of_word(place, {key.start}) for place in letters)
+        if key.slip is Slip.EXCHANGED and origin.stretch.startswith("</") and key.text[0] == ">":
+            return key.text[1].isalpha() and text[key.start - 1] == key.text[1] and not text[key.end : key.end + 1].isalnum()
         if key.slip is Slip.STRUCK and {key.start, key.start - 1} & exchanged:
             return text[key.start].isalnum() and self.is_far(key.start) and self.is_of_word(key.start, exchanged)
         if key.slip is Slip.LOST and key.text.isalnum():
@@ -211,8 +272,8 @@ class Choice:
         if {one.keystroke.slip, other.keystroke.slip} != {Slip.LOST, Slip.NEIGHBOUR} or one.keystroke.text != other.keystroke.text:
             return False
         lost, struck = (one, other) if one.keystroke.slip is Slip.LOST else (other, one)
-        is_near = lost.keystroke.start in (struck.keystroke.start, struck.keystroke.end)
-        return is_near and not any(self.own_blemishes(other)[kind] for kind in IN_TEXT)
+        is_near = lost.keystroke.start in (struck.keystroke.start, struck.keystroke.end) and self.text_of(one) != self.text_of(other)
+        return is_near and not any(self.own_blemishes(other)[kind] for kind in (*IN_TEXT, "odd value"))
 
     def without_worse(self, groups: list[list[Origin]]) -> list[list[Origin]]:
         """The groups with the fewest blemishes of each kind, the worst kind first."""
@@ -231,11 +292,7 @@ class Choice:
 
     def text_of(self, origin: Origin) -> str:
         """The text of the common stretch of an origin without white space."""
-        part, found, at = self.part(origin), [], 0
-        for tag in tags_of(part):
-            found.append(part[at : tag.start])
-            at = tag.end
-        return "".join("".join([*found, part[at:]]).split())
+        return "".join("".join(texts(self.part(origin))).split())
 
     def part(self, origin: Origin) -> str:
         """What an origin has in the stretch that is common to all."""
@@ -245,29 +302,50 @@ class Choice:
         """What the common stretch says: its tags with their attributes in any order, and its text."""
         part, found, at = self.part(origin), [], 0
         for tag in tags_of(part):
-            found += [part[at : tag.start], (tag.name, tag.kind, sorted(tag.pairs))]
+            found += [in_order(part[at : tag.start]), (tag.name, tag.kind, sorted(tag.pairs))]
             at = tag.end
-        return repr([*found, part[at:]])
+        return repr([*found, in_order(part[at:])])
 
     def blemishes(self, origin: Origin) -> Counter[str]:
         """What is unlikely in the common stretch of an origin."""
-        return Counter(self.unlikely(self.part(origin), self.low, self.high, lambda first, last: True))
+        found = Counter(self.unlikely(self.part(origin), self.low, self.high, self.calm_names, lambda first, last: True))
+        if origin.keystroke.slip in (Slip.STRUCK, Slip.EXCHANGED):
+            # What was typed before, if in another order, is in the text.
+            del found["slash"]
+        return found
 
     def own_blemishes(self, origin: Origin) -> Counter[str]:
         """What is unlikely about the changed place itself; a letter of the text is in doubt, and so is a sign that it may have had."""
         key = origin.keystroke
         start = key.start - origin.start
         end = start + len(key.text)
-        found = Counter(self.unlikely(origin.stretch, origin.start, origin.end, lambda first, last: first <= end and last >= start))
-        del found["gap"]
+        names = self.draft.calm_names(origin.start, origin.end, key.start, key.end - 1)
+        found = Counter(self.unlikely(origin.stretch, origin.start, origin.end, names, lambda first, last: first <= end and last >= start))
         tags = list(tags_of(origin.stretch))
+        for kind in ("gap", "tag", *self.as_it_was(origin, tags)):
+            del found[kind]
+        whole = [(tag.start, tag.end) for tag in tags] + [found.span() for found in NOT_TEXT.finditer(origin.stretch)]
         struck = self.draft.text[key.start : key.end] if key.slip is Slip.STRUCK else ""
-        is_typed = key.slip in (Slip.LOST, Slip.NEIGHBOUR) and not any(tag.start <= start < tag.end for tag in tags)
+        is_typed = key.slip in (Slip.LOST, Slip.NEIGHBOUR) and not any(first <= start < last for first, last in whole)
         if is_typed or struck == "&" or (struck == "<" and not any(tag.start <= start <= tag.end for tag in tags)):
             found["typed text"] += 1
         if any(self.may_be_meant(origin)):
             found["value"] += 1
         return found
+
+    def as_it_was(self, origin: Origin, tags: list[Tag]) -> Iterator[str]:
+        """The blemishes that the stretch of an origin with some tags may have had before, or that the document has elsewhere too."""
+        was = self.draft.text[origin.start : origin.end]
+        if texts(origin.stretch) == texts(was):
+            yield from IN_TEXT
+        if self.style.has_sign:
+            yield "markup in text"
+        if all(re.search(f"[\"']{re.escape(tag.identifier())}[\"']", was) for tag in tags if tag.identifier()):
+            yield "identifier"
+        if all(
+            re.search(f"[\"']{re.escape(value)}[\"']", was) for tag in tags for name, value in tag.pairs if is_odd(tag.name, name, value)
+        ):
+            yield "odd value"
 
     def may_be_meant(self, origin: Origin) -> Iterator[bool]:
         """For each changed value, whether it may have been meant: as one of another scheme, or as the identifier of a tag that was lost."""
@@ -287,31 +365,35 @@ class Choice:
                     is_needed = name == "eventID" and (row.form.target, value) not in self.draft.referred
                     yield shape(was) in shapes and not is_needed
 
-    def unlikely(self, part: str, low: int, high: int, looks_at: Callable[[int, int], bool]) -> Iterator[str]:
+    def unlikely(self, part: str, low: int, high: int, named: set[str], looks_at: Callable[[int, int], bool]) -> Iterator[str]:
         """What is unlikely in a part that is there in place of a stretch: in its text, and about tags and edges of tags in places that
         are looked at."""
-        path, at = self.draft.before[self.draft.within(0, low)[1]], 0
+        first, last = self.draft.within(low, high)
+        path, at, before = self.draft.before[first], 0, ""
+        following = self.draft.tags[last].name if last < len(self.draft.tags) else ""
         padded = (self.draft.text[low - 1 : low] or " ") + part + (self.draft.text[high : high + 1] or " ")
         for tag in (*tags_of(part), Tag(len(part), len(part), "", "", ())):
             text = NOT_TEXT.sub("", part[at : tag.start])
-            yield from self.of_text(text, path)
+            inner = self.draft.above[path][1] if path > 0 else ""
+            yield from self.of_text(text, place_of(inner, before, tag.name or following))
+            if text.endswith("/") and tag.kind == "end" and not self.style.has_slash:
+                yield "slash"
             if tag.name and looks_at(tag.start, tag.end):
                 left = kind_of(padded[tag.start]) if looks_at(tag.start - 1, tag.start + 1) else None
                 right = kind_of(padded[tag.end + 1]) if looks_at(tag.end - 1, tag.end + 1) else None
-                yield from self.of_tag(tag, part, left, right)
-            if tag.kind == "start" and path > 0 and tag.name in self.draft.names(path):
+                yield from self.of_tag(tag, part + padded[-1], left, right)
+                known = {*TABLE.get(tag.name, ()), *self.style.by_name[tag.name][tag.kind].attributes, *named}
+                yield from ["name"] * sum(name not in known for name, _ in tag.pairs)
+            if tag.kind == "start" and path > 0 and tag.name in self.draft.names(path) and tag.name not in self.style.nested:
                 yield "nested"
             if tag.name:
                 path = self.draft.after(path, [tag])
-            at = tag.end
+            at, before = tag.end, tag.name
 
-    def of_text(self, text: str, path: int) -> Iterator[str]:
+    def of_text(self, text: str, place: str) -> Iterator[str]:
         """What is unlikely in a text."""
         yield from ["markup in text"] * len(SIGN.findall(text))
-        if not self.style.has_slash:
-            yield from ["slash"] * (text.startswith("/") + (text.endswith("/") and len(text) > 1))
-        inner = self.draft.above[path][1] if path > 0 else ""
-        if text.strip() and inner in BARE and inner not in self.style.with_text:
+        if text.strip() and place in BARE and place not in self.style.with_text:
             yield "bare text"
 
     def of_tag(self, tag: Tag, part: str, left: tuple[bool, bool] | None, right: tuple[bool, bool] | None) -> Iterator[str]:
@@ -323,13 +405,15 @@ class Choice:
         yield from ["glued"] * (has_some and right is not None and right not in alike.rights)
         if tag.kind == "empty" and tag.name in (ROOT, *WRAPPERS, "EVENT", "SIGNAL", "TIMEX3") and not alike.count:
             yield "shape"
-        if SPACED_END.search(part, tag.start, tag.end) and not self.style.by_kind[tag.kind, tag.name in TABLE].is_spaced:
+        of_kind = self.style.by_kind[tag.kind, purpose(tag.name)]
+        if SPACED_END.search(part, tag.start, tag.end) and of_kind.count and not of_kind.is_spaced:
             yield "shape"
-        if any(value != value.strip() for _, value in tag.pairs):
-            yield "spaced value"
-        begins = sum((one.letters for one in named.values()), Counter[str]())
-        if has_some and tag.name in IDENTIFIERS and letters(tag) not in begins and 2 * len(begins) <= begins.total():
+        if any(is_odd(tag.name, name, value) for name, value in tag.pairs):
+            yield "odd value"
+        if tag.name not in TABLE and not any(one.count for one in named.values()):
+            yield "tag"
+        if self.style.has_other_shape(tag):
             yield "identifier"
-        usual = alike if has_some else self.style.by_kind[tag.kind, True]
-        if has_some or tag.name in TABLE:
+        usual = alike if has_some else of_kind
+        if has_some or tag.name in LINK_TAGS:
             yield from ["gap"] * sum(one not in usual.gaps for one in gaps(tag, part))

@@ -5,7 +5,7 @@ from __future__ import annotations
 import re
 from bisect import bisect_left
 from collections import Counter
-from collections.abc import Iterable, Iterator, Sequence
+from collections.abc import Collection, Iterable, Iterator, Sequence
 from functools import cached_property, lru_cache
 from typing import NamedTuple
 
@@ -16,6 +16,8 @@ NAME = r"[A-Za-z_:\x80-\U0010ffff][\w:.\-\x80-\U0010ffff]*+"
 VALUE = "(?:\"[^\"<]*+\"|'[^'<]*+')"
 TAG = re.compile(f"</({NAME}){SPACE}*+>|<({NAME})((?:{SPACE}++{NAME}{SPACE}*+={SPACE}*+{VALUE})*){SPACE}*+(/?)>")
 DOCTYPE = re.compile(f"<!DOCTYPE{SPACE}[^<>\\[]*+>")
+NAMED = re.compile(f"{SPACE}({NAME}){SPACE}*+=")
+COMMENT = re.compile("<!--.*?-->", re.DOTALL)
 PAIR = re.compile(f"{SPACE}++({NAME}){SPACE}*+={SPACE}*+({VALUE})")
 TAKEN = TABLE.keys() | {ROOT, *WRAPPERS}
 NOWHERE, BROKEN = 0, -1
@@ -141,6 +143,11 @@ class Draft:
         return found[::-1]
 
     @cached_property
+    def comments(self) -> list[tuple[int, int]]:
+        """From where to where each comment is, after an empty one at the beginning."""
+        return [(0, 0), *(found.span() for found in COMMENT.finditer(self.text, 0, max(self.text.rfind("-->"), 0) + 3))]
+
+    @cached_property
     def before(self) -> list[int]:
         """The path before each tag, and after the last one, by the tags before it."""
         found = [NOWHERE]
@@ -225,19 +232,17 @@ class Draft:
         come = Counter(filter(None, (tag.declares() for tag in tags)))
         return all(self.declared[one] - gone[one] + come[one] < 2 for one in (*names, *come))
 
-    def is_known(self, tag: Tag, first: int, last: int) -> bool:
-        """Whether a tag may be one of a document, and has no attribute that is in no such tag outside of a stretch of tags."""
+    def is_known(self, tag: Tag, first: int, last: int, calm: Collection[str]) -> bool:
+        """Whether a tag may be one of a document, with no attribute that is neither calm nor in such a tag outside of a stretch."""
         if not may_be(tag.name, tag.kind, tag.pairs):
             return False
-        if any(tag[2:] == old[2:] for old in self.tags[first:last]):
-            return True
-        rows = TABLE.get(tag.name)
-        return rows is None or all(name in rows or self.is_elsewhere(tag.name, name, first, last) for name, _ in tag.pairs)
+        names = [name for name, _ in tag.pairs if tag.name in TABLE and name not in TABLE[tag.name] and name not in calm]
+        inside = Counter(name for old in self.tags[first:last] if old.name == tag.name for name, _ in old.pairs)
+        return all(self.attributes[tag.name, name] > inside[name] for name in names)
 
-    def is_elsewhere(self, tag: str, name: str, first: int, last: int) -> bool:
-        """Whether an attribute is in a tag of a name outside of a stretch of tags."""
-        inside = sum((tag, name) == (old.name, one) for old in self.tags[first:last] for one, _ in old.pairs)
-        return self.attributes[tag, name] > inside
+    def calm_names(self, start: int, end: int, first: int, last: int) -> set[str]:
+        """The names of attributes in a stretch that a keystroke from a first to a last place neither changes nor touches."""
+        return {one[1] for one in NAMED.finditer(self.text, start, end) if last < one.start() or one.end(1) < first}
 
 
 def may_be(name: str, kind: str, pairs: tuple[tuple[str, str], ...]) -> bool:
@@ -247,7 +252,7 @@ def may_be(name: str, kind: str, pairs: tuple[tuple[str, str], ...]) -> bool:
     rows, values = TABLE.get(name), dict(pairs)
     if kind == "end" or len(values) != len(pairs) or rows is None:
         return kind == "end" or len(values) == len(pairs)
-    if not all(value and fits(name, one, value) for one, value in pairs if one in rows):
+    if not all(fits(name, one, value) for one, value in pairs if one in rows):
         return False
     return all(not row.needs or sum(one in values for one in row.needs) == 1 for row in rows.values())
 

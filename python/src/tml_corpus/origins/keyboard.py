@@ -60,7 +60,8 @@ def meant_by_keys() -> dict[str, str]:
         join(one, " ")
     # One slash is written for the other, and the key of the line feed is next to the quotes.
     found["\\"].add("/")
-    found["\n"].update("'\"")
+    for quote in "'\"":
+        join(quote, "\n")
     return {typed: "".join(sorted(meant)) for typed, meant in found.items()}
 
 

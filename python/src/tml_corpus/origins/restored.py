@@ -12,11 +12,14 @@ from tml.tags.source import Explanation
 
 from ..asking.program import FAULT, Program
 from .choice import Restored, chosen
-from .draft import Draft
+from .draft import TAKEN, Draft
 from .search import Origin
 
 NOT_IN_TEXT = re.compile(rb">|=\s*[\"']")
 """What a text hardly has, and a tag has that became text."""
+
+OF_TAG = re.compile("|".join(["<", *(name if len(name) > 1 else f"\\b{name}>" for name in TAKEN)]).encode())
+"""What a text has that may be a tag in part."""
 
 MOST_BYTES = 5 << 16
 """In a longer document no keystroke is searched for: that would take too long."""
@@ -85,14 +88,15 @@ def is_one_keystroke(document: bytes, edit: Edit) -> bool:
     old, new = document[edit.start : edit.end].decode("utf-8"), edit.text.decode("utf-8")
     if len(old) > 2 or len(new) > 2 or (len(old) == 2) != (len(new) == 2) or (len(old) == 2 and old != new[::-1]):
         return False
-    after = applied(document, [edit])
+    after, shift = applied(document, [edit]), len(edit.text) - (edit.end - edit.start)
     start = after.rfind(b"<", 0, max(after.rfind(b"<", 0, edit.start), 0))
     end = after.find(b"<", after.find(b"<", edit.start + len(edit.text)) + 1)
     start, end = max(start, 0), end if end >= 0 else len(after)
-    here, elsewhere = (
-        set(NOT_IN_TEXT.findall(WELL_FORMED.sub(b"", text))) for text in (after[start:end], after[:start] + b" " + after[end:])
-    )
-    return here <= elsewhere
+    before = re.split(rb"\0|(?=<)", WELL_FORMED.sub(b"\0", document[start : end - shift]))
+    was_text = b" ".join(text for text in before if not OF_TAG.search(text))
+    elsewhere = WELL_FORMED.sub(b"", after[:start] + b" " + after[end:])
+    here = WELL_FORMED.sub(b"", after[start:end])
+    return {*NOT_IN_TEXT.findall(here)} <= {*NOT_IN_TEXT.findall(elsewhere), *NOT_IN_TEXT.findall(was_text)}
 
 
 def told(document: bytes, edit: Edit, places: Places) -> str:

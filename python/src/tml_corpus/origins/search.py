@@ -3,6 +3,7 @@
 from __future__ import annotations
 
 import re
+from bisect import bisect_right
 from collections.abc import Callable, Iterator
 from itertools import chain
 from typing import NamedTuple
@@ -31,7 +32,7 @@ EACH, WHOLE, KNOWN = 64, 8, 2000
 """To try a keystroke takes as long as to read so many characters more; so many times as long if it makes tags of all that is around; and so
 many characters more if the document may have these tags."""
 
-ALIKE = {one: kind for kind, those in (("letter", "_:"), ("digit", ".-"), ("sign", "!#&+,;?"), ("space", " \n")) for one in those}
+ALIKE = {one: kind for kind, those in (("letter", "_:"), ("digit", ".-"), ("sign", "#&+,;"), ("space", " \n")) for one in those}
 ALIKE |= {one: "letter" if one.isalpha() else "digit" for one in TYPED if one.isalnum()}
 """The characters that markup takes alike but in comments and declarations: if one of them leaves a tag broken, so do the others."""
 
@@ -192,9 +193,10 @@ class Search:
             left -= 0 if tags is None else (WHOLE - 1) * len(origin.stretch)
             if tags is None and alike[1] and not OTHER_MARKUP.search(origin.stretch):
                 broken.add(alike)
-            elif tags is not None and not BAD_REFERENCE.search(origin.stretch):
+            elif tags is not None and not BAD_REFERENCE.search(NOT_TEXT.sub("", origin.stretch)):
                 first, last = self.draft.within(origin.start, origin.end)
-                if all(self.draft.is_known(tag, first, last) for tag in tags):
+                calm = self.draft.calm_names(origin.start, origin.end, key.start, key.end)
+                if all(self.draft.is_known(tag, first, last, calm) for tag in tags):
                     left -= KNOWN
                     kept.append((origin, tags))
                     yield kept[-1]
@@ -209,12 +211,17 @@ class Search:
                 return None
         if self.fault.number not in ELSEWHERE and not start <= place < end:
             return None
+        stretch = text[start : key.start] + key.text + text[key.end : end]
+        if stretch.rfind("<!--") > stretch.rfind("-->"):
+            end = self.after(max(text.find("-->", key.end), key.end))
         return Origin(key, start, end, text[start : key.start] + key.text + text[key.end : end])
 
     def before(self, place: int) -> int:
-        """The last `<` before a place, or 0."""
+        """The last `<` before a place that is in no comment, or 0."""
         if place != self.place_before[0]:
-            self.place_before = place, max(self.draft.text.rfind("<", 0, place), 0)
+            start = max(self.draft.text.rfind("<", 0, place), 0)
+            comment = self.draft.comments[bisect_right(self.draft.comments, (start, len(self.draft.text))) - 1]
+            self.place_before = place, comment[0] if comment[0] <= start < comment[1] else start
         return self.place_before[1]
 
     def after(self, place: int) -> int:
