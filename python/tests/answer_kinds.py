@@ -46,11 +46,12 @@ BY = Remembering(TML)
 
 @dataclass(frozen=True)
 class Files:
-    """What a question may be about: a document, a second one, and evidence and seconds of the first."""
+    """What a question may be about: a document, a key, evidence of the document, further evidence, and seconds of it."""
 
     document: tml.File
-    other: tml.File
+    key: tml.File
     evidence: tml.File
+    further: tml.File
     seconds: tml.File
 
 
@@ -68,14 +69,14 @@ QUESTIONS: tuple[tuple[str, Question], ...] = (
     ("confirm", lambda files, by: tml.confirm(files.document, files.seconds, by)),
     ("consistent", lambda files, by: tml.consistent(files.document, LINKS, [0.9, 0.3], by)),
     ("dates", lambda files, by: tml.dates(files.document, by)),
-    ("join", lambda files, by: tml.join(files.evidence, files.evidence, by)),
+    ("join", lambda files, by: tml.join(files.evidence, files.further, by)),
     ("matrix", lambda files, by: tml.matrix(files.document, by)),
     ("possible", lambda files, by: tml.possible(files.document, "ei1", "t1", by)),
     ("read", lambda files, by: tml.read(files.document, by)),
     ("reduce", lambda files, by: tml.reduce(files.document, by)),
     ("relations", lambda files, by: tml.relations(files.document, by)),
     ("renew", lambda files, by: tml.renew(files.evidence, by)),
-    ("score", lambda files, by: tml.score(files.document, files.other, by)),
+    ("score", lambda files, by: tml.score(files.document, files.key, by)),
     ("seconds", lambda files, by: tml.seconds(files.document, by)),
     ("solve", lambda files, by: tml.solve(files.document, by)),
     ("spans", lambda files, by: tml.spans(files.document, by)),
@@ -88,9 +89,9 @@ QUESTIONS: tuple[tuple[str, Question], ...] = (
 
 @cache
 def right_files() -> Files:
-    """A document with another one, and evidence and seconds that are right for it."""
-    timeline = tml.expect(tml.solve(FITS, BY), tml.Timeline)
-    return Files(FITS, CLASHES, timeline.evidence, tml.expect(tml.seconds(FITS, BY), tml.Placing).text)
+    """A document with a key, and evidence and seconds that are right for it."""
+    evidence = tml.expect(tml.solve(FITS, BY), tml.Timeline).evidence
+    return Files(FITS, CLASHES, evidence, evidence, tml.expect(tml.seconds(FITS, BY), tml.Placing).text)
 
 
 def file_sets() -> Iterator[Files]:
@@ -98,8 +99,8 @@ def file_sets() -> Iterator[Files]:
     right = right_files()
     assert isinstance(right.evidence, bytes) and isinstance(right.seconds, bytes)
     yield right
-    yield replace(right, other=FITS, evidence=right.evidence.replace(b"at 0 1", b"at 6 7"), seconds=b"")
-    yield replace(right, other=FAULTY, evidence=b"")
+    yield replace(right, key=FITS, evidence=right.evidence.replace(b"at 0 1", b"at 6 7"), seconds=b"")
+    yield replace(right, key=FAULTY, evidence=b"")
     for document in (CLASHES, FAULTY, NEVER):
         yield replace(right, document=document)
 
