@@ -62,14 +62,16 @@ class Container(unittest.TestCase):
     def test_iter_has_the_identifiers_in_the_order_of_the_tags(self) -> None:
         self.assertEqual([*read()], sorted(IDENTIFIERS, key=lambda name: read()[name].bytes.start))
         self.assertEqual(sorted(read()), sorted(IDENTIFIERS))
-        for file in (PORT, NAMELESS):
+        files: tuple[tml.File, ...] = (PORT, NAMELESS)
+        for file in files:
             document = read(file)
             tags = [document[identifier] for identifier in document]
             self.assertEqual([tag.id for tag in tags], list(document))
             self.assertEqual([tag.bytes.start for tag in tags], sorted({tag.bytes.start for tag in tags}))
 
     def test_len(self) -> None:
-        for file in (RATES, PORT, NAMELESS, b"<TimeML/>"):
+        files: tuple[tml.File, ...] = (RATES, PORT, NAMELESS, b"<TimeML/>")
+        for file in files:
             document = read(file)
             self.assertEqual(len(document), len(list(document)))
         self.assertEqual((len(read()), len(read(NAMELESS)), len(read(b"<TimeML/>"))), (9, 8, 0))

@@ -211,7 +211,7 @@ class Pairs(Asking):
         files = self.written(a=FITS, b=FAULTY)
         for jobs in (1, 2):
             self.assertEqual(answers_of(tuple(files), tml.check, jobs), [tml.check(one, BY) for one in files])
-            self.assertEqual(answers_of([tuple(files)], tml.score, jobs), [tml.score(*files, BY)])
+            self.assertEqual(answers_of([tuple(files)], tml.score, jobs), [tml.score(files[0], files[1], BY)])
 
     def test_a_pair_of_which_one_cannot_be_read(self) -> None:
         [file] = self.written(a=FITS)
