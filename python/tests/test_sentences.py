@@ -89,7 +89,7 @@ class Sentences(unittest.TestCase):
             if not isinstance(triples, list) or not isinstance(model, tml.Document):
                 continue
             for triple in triples[:6]:
-                proof = tml.expect(tml.ask(document, *triple, BY), tml.Proof)
+                proof = tml.expect(tml.ask(document, triple.first, triple.relation, triple.second, BY), tml.Proof)
                 links = [str(model.links[step.first]) for walk in proof.walks for step in walk if step.kind == "via"]
                 cited += len(links)
                 words = [model.intervals[name].text for name in (triple.first, triple.second)]
