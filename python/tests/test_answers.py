@@ -59,7 +59,7 @@ class Truth(unittest.TestCase):
         self.assertIs(bool(tml.clashes(CLASHES, by=BY)), True)
         self.assertIs(bool(tml.dates(b"<TimeML/>", BY)), False)
         # These may be None, and are looked at for that; and links and relations are tuples.
-        parts: list[Any] = [document.creation_time, timeline.rows[0].date, document.events[0], document.links[0], timeline.ranks]
+        parts: list[Any] = [document.creation_time, timeline.rows[1].date, document.events[0], document.links[0], timeline.ranks]
         parts += [tml.expect(tml.check(FITS, BY), tml.Accepted).links[0], *tml.expect(tml.relations(FITS, BY), list)]
         self.assertTrue(all(parts))
         for part in (*parts, tml.clashes(FITS, by=BY), None):
@@ -70,9 +70,9 @@ class Truth(unittest.TestCase):
                 bool(answer)
 
     def test_documents_have_a_length_and_no_truth(self) -> None:
-        for source in (FITS, b"<TimeML/>"):
+        for source, count in ((FITS, 9), (b"<TimeML/>", 0)):
             document: Any = tml.read(source, BY)
-            self.assertEqual(len(document), source.count(b"eid=") + source.count(b" tid=") + source.count(b"sid=") + source.count(b"lid="))
+            self.assertEqual(len(document), count)
             with self.assertRaisesRegex(TypeError, r"\bDocument\b.*\.ok\b"):
                 bool(document)
             self.assertIs(document.ok, True)
