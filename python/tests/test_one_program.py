@@ -154,7 +154,7 @@ class Settings(ProgramTest):
         ):
             with self.subTest(program):
                 ended = self.ran((program, "--config", "elsewhere.toml", option, "c"), TML=TML)
-                self.assertEqual(ended.error, b"")
+                self.assertNotIn(b"usage: ", ended.error)
                 self.assertIn(said, ended.out.decode())
 
     def test_a_mistake_in_the_settings_is_an_error_of_each_companion(self) -> None:
