@@ -53,7 +53,7 @@ class Sentences(unittest.TestCase):
             with self.subTest(kind.__name__):
                 said = str(answers[kind])
                 self.assertNotEqual(said, repr(answers[kind]))
-                self.assertRegex(said, r"^[^\n<>{}\[\]]*[a-z]{2} [^\n{}\[\]]*$")
+                self.assertRegex(said, r"^[^\n<>{}\[\]]*[a-z]{2}[,:]? [^\n{}\[\]]*$")
                 self.assertNotRegex(said, rf"\b{kind.__name__}\(|\w=\w|=\(")
 
     def test_what_the_sentences_have(self) -> None:
