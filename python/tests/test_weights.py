@@ -7,8 +7,10 @@ import unittest
 from collections.abc import Callable, Iterable, Iterator, Mapping
 from decimal import Decimal
 from fractions import Fraction
+from functools import partial
 from importlib import import_module
 from importlib.util import find_spec
+from itertools import product
 from typing import Any
 
 import tml
@@ -94,11 +96,9 @@ class Relations(unittest.TestCase):
     def test_each_form_in_each_function(self) -> None:
         arguments = {name: set(one.__annotations__) for name, one in public_functions().items()}
         self.assertEqual({name for name, found in arguments.items() if found & {"links", "relations"}}, set(TAKERS))
-        for name, take in TAKERS.items():
-            wanted = [SURE, LAST] if name == "consistent" else TRIPLES
-            for form, given in forms():
-                with self.subTest(name, form=form):
-                    self.assertEqual(said_by(take(given)), wanted)
+        for name, form, given in ((name, *one) for name in TAKERS for one in forms()):
+            with self.subTest(name, form=form):
+                self.assertEqual(said_by(TAKERS[name](given)), [SURE, LAST] if name == "consistent" else TRIPLES)
 
     def test_none_at_all(self) -> None:
         for given in (frame_of([]), frame_of().iloc[:0], frame_of([]).to_numpy(), iter(())):
@@ -162,22 +162,21 @@ class Weights(unittest.TestCase):
                 self.assertEqual(kept_of(Once(TRIPLES), weights), [SURE, LAST])
 
     def test_what_is_no_weight(self) -> None:
-        for wrong in (*NO_NUMBERS, numpy.float64("nan"), pandas.NA):
-            for given in ([0.3, wrong, 0.5], iter([0.3, wrong, 0.5]), pandas.Series([0.3, wrong, 0.5], dtype="object")):
-                with self.subTest(wrong, form=type(given).__name__):
-                    with self.assertRaisesRegex(ValueError, "^the weight of ei2 BEFORE ei1 is not a number"):
-                        tml.consistent(RATES, TRIPLES, given, BY)
+        columns = partial(pandas.Series, dtype="object")
+        for wrong, form in product((*NO_NUMBERS, numpy.float64("nan"), pandas.NA), (list, iter, columns)):
+            with self.subTest(wrong, form=form):
+                with self.assertRaisesRegex(ValueError, "^the weight of ei2 BEFORE ei1 is not a number"):
+                    tml.consistent(RATES, TRIPLES, form([0.3, wrong, 0.5]), BY)
         # What is not a number is said as it was given.
         texts: Any = ["0.3", "0.9", "0.5"]
         with self.assertRaisesRegex(ValueError, r"^the weight of ei1 BEFORE ei2 is not a number: '0\.3'$"):
             tml.consistent(RATES, TRIPLES, texts, BY)
 
     def test_as_many_weights_as_relations(self) -> None:
-        for count in (0, 2, 4):
-            for given in ([1.0] * count, iter([1.0] * count), pandas.Series([1.0] * count, dtype="float")):
-                with self.subTest(count, form=type(given).__name__):
-                    with self.assertRaisesRegex(ValueError, f"^there are 3 relations and {count} weights: each relation has one$"):
-                        tml.consistent(RATES, iter(TRIPLES), given, BY)
+        for count, form in product((0, 2, 4), (list, iter, partial(pandas.Series, dtype="float"))):
+            with self.subTest(count, form=form):
+                with self.assertRaisesRegex(ValueError, f"^there are 3 relations and {count} weights: each relation has one$"):
+                    tml.consistent(RATES, iter(TRIPLES), form([1.0] * count), BY)
 
     def test_the_same_whether_the_document_is_right_or_not(self) -> None:
         wrong: Any = ["0.3"]
