@@ -5,6 +5,7 @@ from __future__ import annotations
 import os
 import unittest
 from collections.abc import Callable
+from itertools import product
 from typing import Any
 from unittest import mock
 
@@ -36,11 +37,10 @@ class Truth(unittest.TestCase):
 
     def test_each_way_to_use_truth_is_refused(self) -> None:
         answers: list[Any] = [tml.check(FITS, BY), tml.ask(FITS, "ei1", "AFTER", "ei2", BY), tml.read(FITS, BY), tml.matrix(FITS, BY)]
-        for answer in answers:
+        for answer, use in product(answers, USES):
             with self.subTest(type(answer).__name__):
-                for use in USES:
-                    with self.assertRaisesRegex(TypeError, r"\.ok\b"):
-                        use(answer)
+                with self.assertRaisesRegex(TypeError, r"\.ok\b"):
+                    use(answer)
 
     def test_ok_of_every_answer(self) -> None:
         answers = {type(answer): answer for _, answer in every_answer()}
