@@ -15,7 +15,7 @@ from pathlib import Path
 from typing import Any
 
 import tml
-from answer_kinds import BY, CLASHES, FAULTY, FITS, NEVER, QUESTIONS, Files, Remembering, functions_of_files, right_files
+from answer_kinds import BY, CLASHES, FAULTY, FITS, NEVER, QUESTIONS, Files, Question, Remembering, functions_of_files, right_files
 from corpus import TML
 
 Asked = tuple[str, tuple[bytes, ...], tuple[str, ...]]
@@ -83,6 +83,12 @@ class Saving(Remembering):
         return found
 
 
+def cases(*documents: bytes) -> Iterator[tuple[str, Question, Files]]:
+    """Each question about each of some documents."""
+    for document in documents:
+        yield from ((name, question, replace(right_files(), document=document)) for name, question in QUESTIONS)
+
+
 @unittest.skipUnless(os.access(TML, os.X_OK), f"no program {TML}: build it as README.md says, or name one by TML=PROGRAM")
 class ReadOnce(unittest.TestCase):
     def setUp(self) -> None:
@@ -122,14 +128,12 @@ class ReadOnce(unittest.TestCase):
         self.assertEqual(models[0], models[1])
 
     def test_each_function_opens_a_file_once(self) -> None:
-        for document in (FITS, CLASHES, FAULTY):
-            files = replace(right_files(), document=document)
-            for name, question in QUESTIONS:
-                with self.subTest(name, document=hash(document)):
-                    wanted, paths = question(files, BY), self.saved(files)
-                    with OPENED.watching(self.folder):
-                        self.same(question(paths, BY), wanted)
-                    self.assertEqual(set(OPENED.counts.values()), {1})
+        for name, question, files in cases(FITS, CLASHES, FAULTY):
+            with self.subTest(name):
+                wanted, paths = question(files, BY), self.saved(files)
+                with OPENED.watching(self.folder):
+                    self.same(question(paths, BY), wanted)
+                self.assertEqual(set(OPENED.counts.values()), {1})
 
     def test_pipes(self) -> None:
         for name, question in QUESTIONS:
@@ -139,21 +143,17 @@ class ReadOnce(unittest.TestCase):
                     self.same(question(paths, BY), wanted)
 
     def test_a_file_that_is_saved_meanwhile(self) -> None:
-        for document in (FITS, CLASHES):
-            files = replace(right_files(), document=document)
-            for name, question in QUESTIONS:
-                with self.subTest(name, document=hash(document)):
-                    wanted, paths = question(files, BY), self.saved(files)
-                    self.same(question(paths, Saving(TML, self.folder)), wanted)
+        for name, question, files in cases(FITS, CLASHES):
+            with self.subTest(name):
+                wanted, paths = question(files, BY), self.saved(files)
+                self.same(question(paths, Saving(TML, self.folder)), wanted)
 
     def test_no_question_is_asked_twice_about_the_same_bytes(self) -> None:
-        for document in (FITS, CLASHES, NEVER, FAULTY):
-            files = replace(right_files(), document=document)
-            for name, question in QUESTIONS:
-                with self.subTest(name, document=hash(document)):
-                    noting = Noting(TML)
-                    question(files, noting)
-                    self.assertEqual([one[0] for one, count in Counter(noting.asked).items() if count > 1], [])
+        for name, question, files in cases(FITS, CLASHES, NEVER, FAULTY):
+            with self.subTest(name):
+                noting = Noting(TML)
+                question(files, noting)
+                self.assertEqual([one[0] for one, count in Counter(noting.asked).items() if count > 1], [])
 
 
 if __name__ == "__main__":
