@@ -8,6 +8,7 @@ import subprocess
 import sys
 import unittest
 from collections.abc import Callable, Sequence
+from itertools import product
 from pathlib import Path
 from typing import Any
 
@@ -39,12 +40,11 @@ class WrongQueries(unittest.TestCase):
         return str(raised.exception)
 
     def test_how_many_clashes(self) -> None:
-        for document in (CLASHES, FITS, FAULTY):
-            most: Any
-            for most in (0, -1, 1.5, "2", True):
-                with self.subTest(most, document=document[:1]):
-                    said = self.said(ValueError, lambda: tml.clashes(document, most, Unasked(TML)))
-                    self.assertEqual(said, f"most is how many clashes are wanted, 1 or more, and not {most!r}")
+        most: Any
+        for document, most in product((CLASHES, FITS, FAULTY), (0, -1, 1.5, "2", True)):
+            with self.subTest(most):
+                said = self.said(ValueError, lambda: tml.clashes(document, most, Unasked(TML)))
+                self.assertEqual(said, f"most is how many clashes are wanted, 1 or more, and not {most!r}")
         self.assertEqual(tml.clashes(CLASHES, 1, BY), tml.clashes(CLASHES, None, BY))
 
     def test_values_of_times(self) -> None:
@@ -76,22 +76,13 @@ class WrongQueries(unittest.TestCase):
         self.assertEqual(said, "first is a text, the name of an interval, and not Instance: give its id, 'ei1'")
 
     def test_an_empty_path(self) -> None:
-        for name, question in QUESTIONS:
-            for empty in ("document", "key", "evidence", "further", "seconds"):
-                given = {**vars(right_files()), empty: ""}
-                if question(right_files(), BY) == self.answer_of(question, Files(**given)):
-                    continue
-                with self.subTest(name, empty=empty):
-                    with self.assertRaises(FileNotFoundError) as raised:
-                        question(Files(**given), BY)
-                    self.assertEqual(raised.exception.filename, "")
-
-    def answer_of(self, question: Callable[[Files, tml.Answerer], object], files: Files) -> object:
-        """The answer, or the error that is raised."""
-        try:
-            return question(files, BY)
-        except OSError as error:
-            return error
+        for (name, question), empty in product(QUESTIONS, vars(right_files())):
+            with self.subTest(name, empty=empty):
+                try:
+                    # What a question is not about may be anything.
+                    self.assertEqual(question(Files(**{**vars(right_files()), empty: ""}), BY), question(right_files(), BY))
+                except OSError as error:
+                    self.assertEqual((type(error), error.filename), (FileNotFoundError, ""))
 
     def test_a_fault_says_whether_it_is_that_of_the_key(self) -> None:
         of_document = tml.expect(tml.score(FAULTY, FITS, BY), tml.Fault)
