@@ -10,6 +10,7 @@ import unittest
 from collections.abc import Callable, Mapping
 from importlib import import_module
 from importlib.util import find_spec
+from itertools import product
 from operator import getitem
 from typing import Any
 
@@ -60,7 +61,7 @@ class Container(unittest.TestCase):
             self.assertNotIn(other, document)
 
     def test_iter_has_the_identifiers_in_the_order_of_the_tags(self) -> None:
-        self.assertEqual([*read()], sorted(IDENTIFIERS, key=lambda name: read()[name].bytes.start))
+        self.assertEqual([*read()], sorted(IDENTIFIERS, key=lambda name: int(read()[name].bytes.start)))
         self.assertEqual(sorted(read()), sorted(IDENTIFIERS))
         files: tuple[tml.File, ...] = (PORT, NAMELESS)
         for file in files:
@@ -84,11 +85,11 @@ class Container(unittest.TestCase):
 
     def test_unknown_intervals_are_explained(self) -> None:
         self.assertEqual(self.said(getitem, read().intervals, "e1"), self.said(tml.possible, RATES, "e1", "ei2", BY))
-        for name, made in mappings().items():
-            for unknown in ("ei3", "EI1", "q", ""):
-                with self.subTest(name, unknown=unknown):
-                    self.assertEqual(self.said(getitem, made(), unknown), self.said(tml.possible, RATES, unknown, "ei2", BY))
-            self.assertTrue(self.said(getitem, made(), "e1").startswith("'e1' is not an interval of the document"))
+        for (name, made), unknown in product(mappings().items(), ("ei3", "EI1", "q", "", "e1")):
+            with self.subTest(name, unknown=unknown):
+                said, wanted = self.said(getitem, made(), unknown), self.said(tml.possible, RATES, unknown, "ei2", BY)
+                # A timeline does not know events.
+                self.assertEqual(said if unknown != "e1" else said[:39], wanted if unknown != "e1" else wanted[:39])
 
     def test_they_stay_dictionaries(self) -> None:
         for name, made in mappings().items():
