@@ -18,6 +18,7 @@ from dataclasses import dataclass, field
 from fractions import Fraction
 from functools import cache, cached_property
 from importlib import import_module
+from itertools import chain, product
 from pathlib import Path
 from random import Random
 from typing import Any
@@ -137,7 +138,7 @@ def wednesday(week: Week, item: Item) -> Iterator[object]:
     yield found, tml.Score(int(matched), int(links), int(other), int(key_links))
     score: Any = found
     yield score.precision, Fraction(int(matched), int(links)) if int(links) else None
-    yield (sum([found, found]), score.ok), (tml.Score(*(2 * int(one) for one in (matched, links, other, key_links))), True)
+    yield (sum([score, score], tml.Score()), score.ok), (tml.Score(*(2 * int(one) for one in (matched, links, other, key_links))), True)
 
 
 def thursday(week: Week, item: Item) -> Iterator[object]:
@@ -202,11 +203,15 @@ def saturday(week: Week, item: Item) -> Iterator[object]:
 
 
 def sunday(week: Week) -> Iterator[object]:
-    """A folder in parallel: timelines of all documents, and scores of all pairs."""
+    """A folder in parallel: timelines of all documents."""
     for item, (path, answer) in zip(week.items, tml.folder(os.path.join(week.folder, "documents"), tml.solve, jobs=2), strict=True):
         yield os.path.basename(path), f"{item.number:03}.xml"
         found: Any = answer
         yield judge([b"solve", b"d"], {b"d": item.content}, Outcome(0 if found.ok else 2, found.evidence)), None
+
+
+def sunday_evening(week: Week) -> Iterator[object]:
+    """Scores of all pairs of documents and keys, in parallel."""
     folder: Any = tml.folder
     pairs = zip(week.paths("documents"), week.paths("keys"), strict=True)
     for item, (_, answer) in zip(week.items, folder(pairs, tml.score, jobs=2), strict=True):
@@ -230,14 +235,18 @@ def differences_of_week(count: int, by: Any = None) -> Iterator[str]:
     """What differs in a week over so many documents."""
     with tempfile.TemporaryDirectory() as folder:
         week = Week([*items_of(count, by)], by, folder)
-        for what, contents in (("documents", [item.content for item in week.items]), ("keys", [item.key for item in week.items])):
-            os.mkdir(os.path.join(folder, what))
-            for path, content in zip(week.paths(what), contents, strict=True):
-                Path(path).write_bytes(content)
-        for day in DAYS:
-            for item in week.items:
-                yield from differences(f"{day.__name__}, document {item.number}", day(week, item))
-        yield from differences("sunday", sunday(week))
+        save(week.paths("documents"), [item.content for item in week.items])
+        save(week.paths("keys"), [item.key for item in week.items])
+        for day, item in product(DAYS, week.items):
+            yield from differences(f"{day.__name__}, document {item.number}", day(week, item))
+        yield from differences("sunday", chain(sunday(week), sunday_evening(week)))
+
+
+def save(paths: Sequence[str], contents: Sequence[bytes]) -> None:
+    """Writes some files to a new folder."""
+    os.mkdir(os.path.dirname(paths[0]))
+    for path, content in zip(paths, contents, strict=True):
+        Path(path).write_bytes(content)
 
 
 def main(words: Sequence[str]) -> int:
