@@ -10,6 +10,7 @@ from functools import cached_property
 from typing import TYPE_CHECKING, Any
 
 from .misuse import unknown_interval
+from .results import Result
 from .running import CannotRun
 from .statuses import BASE_RELATIONS, INVERSES
 
@@ -29,7 +30,7 @@ def turned(relations: Relations) -> Relations:
 
 
 @dataclass
-class Matrix:
+class Matrix(Result):
     """Of each two intervals the base relations that are possible between them. There are few different sets of these."""
 
     intervals: Sequence[str]

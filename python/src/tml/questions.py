@@ -12,8 +12,9 @@ from __future__ import annotations
 
 import io
 import os
-from collections.abc import Iterable
+from collections.abc import Callable, Iterable
 from itertools import chain
+from typing import TypeVar
 
 from .asking import Answer, Answerer, File, answer_to
 from .documents import Document, document_from
@@ -65,15 +66,23 @@ __all__ = [
     "renew", "score", "seconds", "solve", "spans", "timeline", "verify",
 ]  # fmt: skip
 
+Found = TypeVar("Found")
+Problem = TypeVar("Problem")
+
 
 def accepted_of(answer: Answer) -> Accepted:
     """What the document of a question has, which was accepted: its intervals and links have names and numbers there."""
     return read_accepted(answer_to(answer.by, "check", answer.files[0]).text, answer.files[0])
 
 
-def clash_of(answer: Answer) -> Clash | None:
-    """The clash that is the answer where no timeline fits."""
-    return read_clash(answer.text, accepted_of(answer), answer.files[0]) if answer.status == TmlStatus.CLASH else None
+def clash_of(answer: Answer) -> Clash | Fault | TooLong | None:
+    """The clash that is the answer where no timeline fits, or why nothing can be said of one."""
+    return read_clash(answer.text, accepted_of(answer), answer.files[0]) if answer.status == TmlStatus.CLASH else answer.problem()
+
+
+def unless(problem: Problem | None, read: Callable[[], Found]) -> Problem | Found:
+    """What is read, unless there is a problem."""
+    return read() if problem is None else problem
 
 
 def read(document: File, by: Answerer | None = None) -> Document | Fault | TooLong:
@@ -96,31 +105,30 @@ def read(document: File, by: Answerer | None = None) -> Document | Fault | TooLo
 def spans(document: File, by: Answerer | None = None) -> list[Unit] | Fault | TooLong:
     """The units of a document in their order: texts, tags with their attributes, comments and others. Only its source is looked at."""
     answer = answer_to(by, "spans", document)
-    return answer.problem() or read_units(answer.text)
+    return unless(answer.problem(), lambda: read_units(answer.text))
 
 
 def check(document: File, by: Answerer | None = None) -> Accepted | Fault | TooLong:
     """What a document has that keeps the rules, or its first fault."""
     answer = answer_to(by, "check", document)
-    return answer.problem() or read_accepted(answer.text, answer.files[0])
+    return unless(answer.problem(), lambda: read_accepted(answer.text, answer.files[0]))
 
 
 def dates(document: File, by: Answerer | None = None) -> dict[str, Date] | Fault | TooLong:
     """What the calendar says of each time of a document, by its name."""
     answer = answer_to(by, "dates", document)
-    return answer.problem() or read_dates(answer.text)
+    return unless(answer.problem(), lambda: read_dates(answer.text))
 
 
 def solve(document: File, by: Answerer | None = None) -> Timeline | Clash | Fault | TooLong:
     """The least timeline that fits a document, or a minimal clash where none does."""
     answer = answer_to(by, "solve", document)
-    return answer.problem() or clash_of(answer) or read_timeline(answer.text, accepted_of(answer))
+    return unless(clash_of(answer), lambda: read_timeline(answer.text, accepted_of(answer)))
 
 
 def clash(document: File, by: Answerer | None = None) -> Clash | Fault | TooLong | None:
     """A minimal clash of a document, or nothing where some timeline fits."""
-    answer = answer_to(by, "solve", document)
-    return answer.problem() or clash_of(answer)
+    return clash_of(answer_to(by, "solve", document))
 
 
 def clashes(document: File, most: int | None = None, by: Answerer | None = None) -> list[Clash] | Fault | TooLong:
@@ -129,13 +137,10 @@ def clashes(document: File, most: int | None = None, by: Answerer | None = None)
 
     Left out, the links of all of them together leave no clash. There may be other clashes, which have a link in common with one of these.
     """
-    answer = answer_to(by, "solve", document)
-    problem = answer.problem()
-    if problem is not None:
-        return problem
-    first, found = clash_of(answer), list[Clash]()
-    if first is None:
-        return found
+    answer, found = answer_to(by, "solve", document), list[Clash]()
+    first = clash_of(answer)
+    if not isinstance(first, Clash):
+        return unless(first, lambda: found)
     accepted, skeleton, left_out = accepted_of(answer), Skeleton(answer.files[0]), set[int]()
     while first is not None:
         found.append(first)
@@ -169,7 +174,7 @@ def ask(
 ) -> Proof | Counterexample | Clash | Fault | TooLong:
     """Whether a relation holds between two intervals in every timeline that fits: a proof, or a timeline in which it is false."""
     answer = answer_to(by, "ask", document, arguments=(first, relation, second))
-    return answer.problem() or clash_of(answer) or read_proof(answer.text, Relation(first, relation, second), accepted_of(answer))
+    return unless(clash_of(answer), lambda: read_proof(answer.text, Relation(first, relation, second), accepted_of(answer)))
 
 
 def relations(
@@ -181,7 +186,7 @@ def relations(
     start and the same end. With `both_directions` each is followed by the same the other way round.
     """
     answer = answer_to(by, "relations", document)
-    problem = answer.problem() or clash_of(answer)
+    problem = clash_of(answer)
     if problem is not None:
         return problem
     found = read_relations(answer.text)
@@ -207,19 +212,19 @@ def turned(one: Relation) -> Relation:
 def possible(document: File, first: str, second: str, by: Answerer | None = None) -> Possible | Clash | Fault | TooLong:
     """The base relations that are possible between two intervals, each with a timeline."""
     answer = answer_to(by, "possible", document, arguments=(first, second))
-    return answer.problem() or clash_of(answer) or read_possible(answer.text, accepted_of(answer).intervals)
+    return unless(clash_of(answer), lambda: read_possible(answer.text, accepted_of(answer).intervals))
 
 
 def matrix(document: File, by: Answerer | None = None) -> Matrix | Clash | Fault | TooLong:
     """The base relations that are possible between each two intervals."""
     answer = answer_to(by, "matrix", document)
-    return answer.problem() or clash_of(answer) or read_matrix(io.BytesIO(answer.text), accepted_of(answer).intervals)
+    return unless(clash_of(answer), lambda: read_matrix(io.BytesIO(answer.text), accepted_of(answer).intervals))
 
 
 def reduce(document: File, by: Answerer | None = None) -> Reduced | Clash | Fault | TooLong:
     """The links of a document without those that follow from others."""
     answer = answer_to(by, "reduce", document)
-    return answer.problem() or clash_of(answer) or read_reduced(answer.text, answer.files[0])
+    return unless(clash_of(answer), lambda: read_reduced(answer.text, answer.files[0]))
 
 
 def score(document: File, key: File, by: Answerer | None = None) -> Score | Clash | KeyClash | Fault | TooLong:
@@ -227,43 +232,43 @@ def score(document: File, key: File, by: Answerer | None = None) -> Score | Clas
     answer = answer_to(by, "score", document, key)
     if answer.status == TmlStatus.CLASH and answer.text == b"key clash\n":
         return KeyClash()
-    return answer.problem() or clash_of(answer) or read_score(answer.text)
+    return unless(clash_of(answer), lambda: read_score(answer.text))
 
 
 def seconds(document: File, by: Answerer | None = None) -> Placing | Cycle | Fault | TooLong:
     """Seconds for all intervals that meet the links, the dates and the durations of a document; or a cycle where there are none."""
     answer = answer_to(by, "seconds", document)
-    return answer.problem() or read_seconds(answer.text, accepted_of(answer).intervals)
+    return unless(answer.problem(), lambda: read_seconds(answer.text, accepted_of(answer).intervals))
 
 
 def canon(document: File, by: Answerer | None = None) -> bytes | Fault | TooLong:
     """The canonical text of a document: two accepted documents have the same exactly where they say the same."""
     answer = answer_to(by, "canon", document)
-    return answer.problem() or answer.text
+    return unless(answer.problem(), lambda: answer.text)
 
 
 def verify(document: File, evidence: File, by: Answerer | None = None) -> Verified | Malformed | Refused | Fault | TooLong:
     """What evidence shows of a document, where it is right."""
     answer = answer_to(by, "verify", document, evidence)
-    return answer.problem() or answer.refusal() or Verified(read_claims(answer.text))
+    return unless(answer.refusal(), lambda: Verified(read_claims(answer.text)))
 
 
 def confirm(document: File, text: File, by: Answerer | None = None) -> Confirmed | Malformed | Refused | Fault | TooLong:
     """Whether the text of a placing or of a cycle is right for a document."""
     answer = answer_to(by, "confirm", document, text)
-    return answer.problem() or answer.refusal() or Confirmed("placing" if answer.text == b"confirmed placing\n" else "cycle")
+    return unless(answer.refusal(), lambda: Confirmed("placing" if answer.text == b"confirmed placing\n" else "cycle"))
 
 
 def renew(evidence: File, by: Answerer | None = None) -> bytes | Malformed | TooLong:
     """The same evidence as a text of version 2."""
     answer = answer_to(by, "renew", evidence)
-    return answer.too_long() or answer.malformed() or answer.text
+    return unless(answer.malformed(), lambda: answer.text)
 
 
 def join(evidence: File, second: File, by: Answerer | None = None) -> bytes | Malformed | TooLong:
     """The claims of two texts of evidence as one text."""
     answer = answer_to(by, "join", evidence, second)
-    return answer.too_long() or answer.malformed() or answer.text
+    return unless(answer.malformed(), lambda: answer.text)
 
 
 def drill(number: int, by: Answerer | None = None) -> Drill:

@@ -8,6 +8,7 @@ from itertools import islice
 from typing import Any
 
 from .lines import Evidence, lines_of, step_of
+from .misuse import ByName
 from .places import Places
 from .results import (
     Accepted,
@@ -61,7 +62,7 @@ def tags_of(document: bytes, name: bytes) -> Iterator[dict[bytes, str]]:
 
 def lids_of(document: bytes) -> list[str | None]:
     """The lid of each TLINK of an accepted document, in their order; None where it has none."""
-    return [values.get(b"lid") for values in tags_of(document, b"TLINK")]
+    return [values.get(b"lid") or None for values in tags_of(document, b"TLINK")]
 
 
 def times_of(document: bytes) -> set[str]:
@@ -188,7 +189,7 @@ def read_seconds(text: bytes, names: Sequence[str]) -> Placing | Cycle:
     _, (kind, _), *lines, _ = lines_of(text)
     if kind == "cycle":
         return Cycle(tuple(map(step_of, lines)), text)
-    return Placing({name: Seconds(int(start), int(end)) for name, (_, start, end) in zip(names, lines, strict=True)}, text)
+    return Placing(ByName((name, Seconds(int(start), int(end))) for name, (_, start, end) in zip(names, lines, strict=True)), text)
 
 
 def read_claims(text: bytes) -> tuple[Claim, ...]:

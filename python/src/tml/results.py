@@ -9,7 +9,7 @@ from collections.abc import Mapping
 from dataclasses import astuple, dataclass, field
 from fractions import Fraction
 from functools import cached_property
-from typing import TYPE_CHECKING, Any, Literal, NamedTuple
+from typing import TYPE_CHECKING, Any, Literal, NamedTuple, NoReturn
 
 from .lines import Evidence, Ranks, Step
 from .saying import counted
@@ -28,14 +28,37 @@ NOT_SHOWN = {"not shown": True}
 """What is noted of a field that is for later questions, and no part of an answer."""
 
 
-class Result:
-    """What every answer has."""
+class Part:
+    """What answers and their parts have."""
 
     def to_dict(self) -> dict[str, Any]:
-        """The answer as a dictionary of what `json` takes: with its fields by their names, and the name of its class as `result`."""
+        """This as a dictionary of what `json` takes: its fields by their names, and the name of its class as `result`."""
         from .dictionaries import dictionary_of
 
         return dictionary_of(self)
+
+
+class Result(Part):
+    """What every answer has. It has no truth value: `if answer` raises a `TypeError`, so that no clash is taken for a yes."""
+
+    @property
+    def ok(self) -> bool:
+        """Whether the answer says yes. Faults, clashes, counterexamples and what is refused say no."""
+        return True
+
+    def __bool__(self) -> NoReturn:
+        raise TypeError(
+            f"{type(self).__name__} has no truth value: .ok is whether the answer says yes, and match or isinstance tell answers apart"
+        )
+
+
+class Negative(Result):
+    """What every answer has that says no."""
+
+    @property
+    def ok(self) -> bool:
+        """False: the answer says no."""
+        return False
 
 
 class Relation(NamedTuple):
@@ -86,7 +109,7 @@ class Seconds(NamedTuple):
 
 
 @dataclass(frozen=True)
-class Fault(Result):
+class Fault(Negative):
     """The first fault of a document, or of a key: its number and name, the byte where it is, from 0, and the line and column, from 1.
 
     What is wrong and how it is mended is found once it is asked for, by `message`, `mark` or `str`.
@@ -128,7 +151,7 @@ class Fault(Result):
 
 
 @dataclass(frozen=True)
-class TooLong(Result):
+class TooLong(Negative):
     """A file has more bytes than it may."""
 
     file: Literal["document", "key", "evidence", "second", "seconds"]
@@ -154,7 +177,7 @@ class Accepted(Result):
 
 
 @dataclass(frozen=True)
-class Date(Result):
+class Date(Part):
     """What the calendar says of a time.
 
     It is `exact`, with the second at which it starts and the first one after it; or `within` two such seconds; or `free`, with none.
@@ -169,7 +192,7 @@ class Date(Result):
 
 
 @dataclass(frozen=True)
-class Attribute(Result):
+class Attribute(Part):
     """An attribute of a tag: from the first byte of its name to the one after its closing quote."""
 
     start: int
@@ -178,7 +201,7 @@ class Attribute(Result):
 
 
 @dataclass(frozen=True)
-class Unit(Result):
+class Unit(Part):
     """A unit of a document: its first byte, the one after it, its kind, and of a tag the name and the attributes."""
 
     start: int
@@ -221,7 +244,7 @@ class Timeline(Result):
 
 
 @dataclass(frozen=True)
-class Clash(Result):
+class Clash(Negative):
     """Links that cannot all be true, as the walk shows, though any one of them left out, the others can."""
 
     links: tuple[Link, ...]
@@ -261,7 +284,7 @@ class Proof(Result):
 
 
 @dataclass(frozen=True)
-class Counterexample(Result):
+class Counterexample(Negative):
     """A relation need not hold: a timeline that fits, in which it is false."""
 
     relation: Relation
@@ -331,7 +354,7 @@ class Score(Result):
 
 
 @dataclass(frozen=True)
-class KeyClash(Result):
+class KeyClash(Negative):
     """No timeline fits the key."""
 
     def __str__(self) -> str:
@@ -347,7 +370,7 @@ class Placing(Result):
 
 
 @dataclass(frozen=True)
-class Cycle(Result):
+class Cycle(Negative):
     """Constraints on seconds that cannot all be met; with the text for `confirm`."""
 
     steps: tuple[Step, ...]
@@ -355,7 +378,7 @@ class Cycle(Result):
 
 
 @dataclass(frozen=True)
-class Claim(Result):
+class Claim(Part):
     """What a claim of evidence shows: of an entailment or a counterexample the relation, of a clash the numbers of its links."""
 
     kind: Literal["timeline", "entails", "counter", "clash"]
@@ -378,7 +401,7 @@ class Confirmed(Result):
 
 
 @dataclass(frozen=True)
-class Malformed(Result):
+class Malformed(Negative):
     """A text of evidence or of seconds is malformed: its first bad line, from 1."""
 
     file: Literal["evidence", "second", "seconds"]
@@ -386,7 +409,7 @@ class Malformed(Result):
 
 
 @dataclass(frozen=True)
-class Refused(Result):
+class Refused(Negative):
     """Evidence, a placing or a cycle is wrong: the first reason. Of evidence also the claim, from 0, and the part of it."""
 
     reason: str
