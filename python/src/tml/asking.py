@@ -6,7 +6,6 @@ import os
 from collections.abc import Sequence
 from dataclasses import dataclass
 from functools import cache
-from pathlib import Path
 from typing import Any, Protocol
 
 from .documents import Document
@@ -83,7 +82,7 @@ def content(file: File, limit: int) -> bytes:
 def content_at(path: str | os.PathLike[str], limit: int) -> bytes:
     """The bytes of the file at a path."""
     try:
-        with Path(path).open("rb") as opened:
+        with open(path, "rb") as opened:
             return opened.read(limit + 1)
     except (OSError, ValueError):
         # A text that begins with a tag is nowhere a file: somebody gave a document as text.

@@ -56,6 +56,15 @@ def unknown_identifier(name: str, identifiers: Sequence[str]) -> UnknownName:
     return UnknownName(name, f"{said}: {meant(str(name), identifiers) or listed(identifiers)}")
 
 
+def expect_words(**given: object) -> None:
+    """Raises a `TypeError` where a word of a question is no text; words go by the names of the arguments."""
+    name, word = next(((name, word) for name, word in given.items() if not isinstance(word, str)), ("", ""))
+    if name:
+        what = "as BEFORE" if name == "relation" else "the name of an interval"
+        hint = f": give its id, {identifier!r}" if isinstance(identifier := getattr(word, "id", None), str) else ""
+        raise TypeError(f"{name} is a text, {what}, and not {type(word).__name__}{hint}")
+
+
 def not_a_file(given: object) -> TypeError:
     """The exception where a document or another file is neither bytes nor a path."""
     said = f"a file is bytes or a path, and not {type(given).__name__}"

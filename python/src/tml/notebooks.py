@@ -39,8 +39,7 @@ def cut_short(text: str, longest: int = LONGEST) -> str:
 
 def html_of_fault(fault: Fault) -> str:
     """A fault: its message, and the line of the file with a mark below the words that it speaks of."""
-    where = f"{fault.line}:{fault.column}: {fault.number} {fault.name}"
-    message = element("p", element("strong", where), ": ", cut_short(fault.message, 2000))
+    message = element("p", element("strong", fault.where), ": ", cut_short(fault.message, 2000))
     return element("div", message, element("pre", "\n".join(fault.mark))).text
 
 

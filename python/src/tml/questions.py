@@ -14,11 +14,13 @@ import io
 import os
 from collections.abc import Callable, Iterable
 from itertools import chain
+from numbers import Integral
 from typing import TypeVar
 
 from .asking import Answer, Answerer, File, answer_to
 from .documents import Document, document_from
 from .matrices import Matrix, read_matrix
+from .misuse import expect_words
 from .reading import (
     read_accepted,
     read_claims,
@@ -137,6 +139,8 @@ def clashes(document: File, most: int | None = None, by: Answerer | None = None)
 
     Left out, the links of all of them together leave no clash. There may be other clashes, which have a link in common with one of these.
     """
+    if most is not None and (isinstance(most, bool) or not isinstance(most, Integral) or most < 1):
+        raise ValueError(f"most is how many clashes are wanted, 1 or more, and not {most!r}")
     answer, found = answer_to(by, "solve", document), list[Clash]()
     first = clash_of(answer)
     if not isinstance(first, Clash):
@@ -173,6 +177,7 @@ def ask(
     document: File, first: str, relation: str, second: str, by: Answerer | None = None
 ) -> Proof | Counterexample | Clash | Fault | TooLong:
     """Whether a relation holds between two intervals in every timeline that fits: a proof, or a timeline in which it is false."""
+    expect_words(first=first, relation=relation, second=second)
     answer = answer_to(by, "ask", document, arguments=(first, relation, second))
     return unless(clash_of(answer), lambda: read_proof(answer.text, Relation(first, relation, second), accepted_of(answer)))
 
@@ -211,6 +216,7 @@ def turned(one: Relation) -> Relation:
 
 def possible(document: File, first: str, second: str, by: Answerer | None = None) -> Possible | Clash | Fault | TooLong:
     """The base relations that are possible between two intervals, each with a timeline."""
+    expect_words(first=first, second=second)
     answer = answer_to(by, "possible", document, arguments=(first, second))
     return unless(clash_of(answer), lambda: read_possible(answer.text, accepted_of(answer).intervals))
 

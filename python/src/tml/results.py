@@ -141,8 +141,13 @@ class Fault(Negative):
         """The line of the file that the message speaks of, and below it a line with a mark under the words."""
         return self.told.mark
 
+    @property
+    def where(self) -> str:
+        """The place and the kind of the fault, and whether it is one of the key."""
+        return f"{'key ' * (self.file == 'key')}{self.line}:{self.column}: {self.number} {self.name}"
+
     def __str__(self) -> str:
-        return f"{self.line}:{self.column}: {self.number} {self.name}: {self.message}"
+        return f"{self.where}: {self.message}"
 
     def _repr_html_(self) -> str:
         from .notebooks import html_of_fault

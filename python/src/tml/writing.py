@@ -127,13 +127,18 @@ def times_of(times: Mapping[str, str] | Sequence[Time] | None) -> dict[str, str]
     """The tags of times by their names."""
     if times is None:
         return {}
-    if not isinstance(times, Mapping):
-        return {str(one.id): timex(str(one.id), {name: one.attributes[name] for name in KEPT if name in one.attributes}) for one in times}
-    return {name: timex(name, {"type": type_of(value), "value": value}) for name, value in times.items()}
+    if isinstance(times, Mapping):
+        return {name: timex(name, {"type": type_of(name, value), "value": value}) for name, value in times.items()}
+    given: list[Any] = [*times] if isinstance(times, Iterable) else [times]
+    if not all(isinstance(one, Time) for one in given):
+        raise TypeError(f"times are values by their names, or Times that tml.read answered, and not {times!r}")
+    return {str(one.id): timex(str(one.id), {name: one.attributes[name] for name in KEPT if name in one.attributes}) for one in given}
 
 
-def type_of(value: str) -> str:
+def type_of(name: str, value: str) -> str:
     """The type of a time with this value, as far as that can be seen."""
+    if not isinstance(value, str):
+        raise TypeError(f"the value of the time {name!r} is a text, as 1998-01-08, and not {value!r}")
     if DURATION.match(value) and not value.startswith("PAST"):
         return "DURATION"
     return "SET" if SET.match(value) else "TIME" if TIME.fullmatch(value) else "DATE"
