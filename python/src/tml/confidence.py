@@ -10,6 +10,7 @@ from functools import cached_property
 from numbers import Real
 
 from .asking import Answer, Answerer, File, answer_to, content
+from .helping import example
 from .matrices import Matrix, read_matrix
 from .questions import check, dates, spans
 from .reading import cited
@@ -22,6 +23,7 @@ from .writing import Linkables, ends_in, links_in, with_tags
 __all__ = ["consistent"]
 
 
+@example('"samples/rates.xml", [("ei1", "BEFORE", "ei2"), ("ei2", "BEFORE", "ei1")], [0.9, 0.6]')
 def consistent(document: File, links: Linkables, weights: Iterable[float], by: Answerer | None = None) -> Consistent | Fault | TooLong:
     """The relations that are kept where the least confident one of each clash is dropped, until nothing clashes.
 
@@ -31,9 +33,6 @@ def consistent(document: File, links: Linkables, weights: Iterable[float], by: A
 
     Three questions are asked, and two more where something clashes, however many relations are dropped. Which ones are to be dropped is
     counted here; that those which are kept fit, and none of those which are dropped beside them, is what `tml` says.
-
-    `ValueError` where there is not one weight for each relation, or one is not a number, or there are more relations than a document may
-    have links; `UnknownName` where one names no interval or is not a relation.
     """
     wanted, confidences, given = links_in(links), list(weights), content(document, DOCUMENT_LIMIT)
     relations = [one.says() for one in wanted]

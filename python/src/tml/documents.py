@@ -116,11 +116,11 @@ class TLink(Tag):
         return f"{self.called()}: {self.says()}"
 
 
-@dataclass(frozen=True)
+@dataclass(frozen=True, repr=False)
 class Document(Result):
     """An accepted document. Each question takes it in the place of bytes or a path. It contains its tags by their identifiers."""
 
-    content: bytes = field(repr=False)
+    content: bytes
     """Its bytes."""
     path: str | None
     """Where it lay, if that is known."""
@@ -132,7 +132,7 @@ class Document(Result):
     """The TLINK tags, by their numbers."""
     other_links: tuple[Tag, ...]
     """The ALINK and SLINK tags."""
-    text: str = field(repr=False)
+    text: str
     """What can be read in it: the texts between its tags, with references decoded."""
 
     @cached_property

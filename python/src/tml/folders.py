@@ -75,6 +75,8 @@ def folder(paths: Paths, question: Callable[[str], Any] = read, jobs: int | None
 
     If a file cannot be read, or takes its process along, or the question raises anything about it, the answer is a `NotAnswered` with
     the cause, and the others go on.
+
+        tml.folder("samples", tml.check, jobs=2)
     """
     if jobs is not None and jobs < 1:
         raise ValueError(f"jobs is how many processes are asked, 1 or more, and not {jobs}")

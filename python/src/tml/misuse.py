@@ -5,7 +5,7 @@ from __future__ import annotations
 from collections.abc import Sequence
 from typing import TypeVar
 
-from .saying import listed, meant, shown
+from .saying import cut_short, listed, meant, shown
 from .statuses import RELATIONS
 
 __all__ = ["UnknownName"]
@@ -73,7 +73,7 @@ def not_a_file(given: object) -> TypeError:
     if isinstance(given, (list, tuple, set)):
         return TypeError(f"{said}: ask about each file by itself, or about many by tml.folder")
     if hasattr(given, "to_dict"):
-        return TypeError(f"{said}: {given}; tml.expect tells an answer that is not the wished one")
+        return TypeError(f"{said}: {cut_short(str(given), 200)}; tml.expect tells an answer that is not the wished one")
     return TypeError(f"{said}: give a str, a pathlib.Path, bytes, or what tml.read answered")
 
 

@@ -137,9 +137,9 @@ def read_relations(text: bytes) -> list[Relation]:
     return [Relation(first, relation, second) for first, relation, second in lines_of(text)]
 
 
-def read_timeline(text: bytes, of: Accepted) -> Timeline:
+def read_timeline(text: bytes, of: Accepted, document: bytes) -> Timeline:
     """A timeline that was printed as evidence."""
-    return Timeline(Evidence(text).ranks(of.intervals), text)
+    return Timeline(Evidence(text).ranks(of.intervals), text, content=document)
 
 
 def cited(text: bytes) -> list[int]:
@@ -154,15 +154,15 @@ def read_clash(text: bytes, of: Accepted, document: bytes) -> Clash:
     return Clash(links, lines.walk(), of.intervals, text, document)
 
 
-def read_proof(text: bytes, relation: Relation, of: Accepted) -> Proof | Counterexample:
+def read_proof(text: bytes, relation: Relation, of: Accepted, document: bytes) -> Proof | Counterexample:
     """What was printed as evidence on a relation."""
     lines = Evidence(text)
     if next(lines.rest)[0] == "counter":
-        return Counterexample(relation, lines.ranks(of.intervals), text)
+        return Counterexample(relation, lines.ranks(of.intervals), text, document)
     walks = []
     while lines.peek() != ["end"]:
         walks.append(lines.walk())
-    return Proof(relation, tuple(walks), text)
+    return Proof(relation, tuple(walks), text, document)
 
 
 def read_possible(text: bytes, names: Sequence[str]) -> Possible:
@@ -184,11 +184,11 @@ def read_score(text: bytes) -> Score:
     return Score(int(matched), int(links), int(found), int(key_links))
 
 
-def read_seconds(text: bytes, names: Sequence[str]) -> Placing | Cycle:
+def read_seconds(text: bytes, names: Sequence[str], document: bytes) -> Placing | Cycle:
     """A placing by the names of the intervals, or a cycle."""
     _, (kind, _), *lines, _ = lines_of(text)
     if kind == "cycle":
-        return Cycle(tuple(map(step_of, lines)), text)
+        return Cycle(tuple(map(step_of, lines)), text, document)
     return Placing(ByName((name, Seconds(int(start), int(end))) for name, (_, start, end) in zip(names, lines, strict=True)), text)
 
 

@@ -12,8 +12,7 @@ from functools import cached_property
 from typing import TYPE_CHECKING, Any, Literal, NamedTuple, NoReturn
 
 from .lines import Evidence, Ranks, Step
-from .saying import counted
-from .statuses import DOCUMENT_LIMIT, EVIDENCE_LIMIT
+from .saying import cut_short
 
 if TYPE_CHECKING:
     from .explaining.telling import Told
@@ -23,6 +22,9 @@ __all__ = [
     "Link", "Malformed", "Placing", "Possible", "Proof", "Reduced", "Refused", "Relation", "Result", "Row", "Score", "Seconds", "Timeline",
     "TooLong", "Unit", "Verified",
 ]  # fmt: skip
+
+LONGEST = 300
+"""How many characters of a sentence stand in a `repr`."""
 
 NOT_SHOWN = {"not shown": True}
 """What is noted of a field that is for later questions, and no part of an answer."""
@@ -50,6 +52,14 @@ class Result(Part):
         raise TypeError(
             f"{type(self).__name__} has no truth value: .ok is whether the answer says yes, and match or isinstance tell answers apart"
         )
+
+    def __str__(self) -> str:
+        from .sentences import sentence
+
+        return sentence(self)
+
+    def __repr__(self) -> str:
+        return f"<{type(self).__name__}: {cut_short(str(self), LONGEST)}>"
 
 
 class Negative(Result):
@@ -161,12 +171,8 @@ class TooLong(Negative):
 
     file: Literal["document", "key", "evidence", "second", "seconds"]
 
-    def __str__(self) -> str:
-        limit = DOCUMENT_LIMIT if self.file in ("document", "key") else EVIDENCE_LIMIT
-        return f"the {self.file} has more than {limit:,} bytes"
 
-
-@dataclass(frozen=True)
+@dataclass(frozen=True, repr=False)
 class Accepted(Result):
     """A document that keeps the rules: how many tags it has of each kind, and its intervals and links in their order."""
 
@@ -231,7 +237,7 @@ class Row(NamedTuple):
         return {**self._asdict(), "date": None if self.date is None else self.date.to_dict()}
 
 
-@dataclass(frozen=True)
+@dataclass(frozen=True, repr=False)
 class Timeline(Result):
     """The least timeline that fits a document, by the names of its intervals: each start and end has a rank, and only their order counts.
 
@@ -239,8 +245,9 @@ class Timeline(Result):
     """
 
     ranks: Mapping[str, Ranks]
-    evidence: bytes = field(repr=False)
-    rows: tuple[Row, ...] = field(default=(), repr=False, compare=False)
+    evidence: bytes
+    rows: tuple[Row, ...] = field(default=(), compare=False)
+    content: bytes = field(default=b"", compare=False, metadata=NOT_SHOWN)
 
     def _repr_svg_(self) -> str:
         from .notebooks import svg_of_timeline
@@ -248,21 +255,16 @@ class Timeline(Result):
         return svg_of_timeline(self)
 
 
-@dataclass(frozen=True)
+@dataclass(frozen=True, repr=False)
 class Clash(Negative):
     """Links that cannot all be true, as the walk shows, though any one of them left out, the others can."""
 
     links: tuple[Link, ...]
     walk: tuple[Step, ...]
-    intervals: tuple[str, ...] = field(repr=False)
-    evidence: bytes = field(repr=False)
-    content: bytes = field(default=b"", repr=False, compare=False, metadata=NOT_SHOWN)
+    intervals: tuple[str, ...]
+    evidence: bytes
+    content: bytes = field(default=b"", compare=False, metadata=NOT_SHOWN)
     """The bytes of the document."""
-
-    def __str__(self) -> str:
-        if len(self.links) == 1:
-            return f"clash of one link with the dates: {self.links[0]}"
-        return f"clash of {counted(len(self.links), 'link')}, which cannot all be true: {'; '.join(map(str, self.links))}"
 
     def _repr_html_(self) -> str:
         from .notebooks import html_of_clash
@@ -279,32 +281,34 @@ class Clash(Negative):
         return tuple(lines.ranks(self.intervals) for _ in self.links)
 
 
-@dataclass(frozen=True)
+@dataclass(frozen=True, repr=False)
 class Proof(Result):
     """A relation holds in every timeline that fits: a walk for each of its orders."""
 
     relation: Relation
     walks: tuple[tuple[Step, ...], ...]
-    evidence: bytes = field(repr=False)
+    evidence: bytes
+    content: bytes = field(default=b"", compare=False, metadata=NOT_SHOWN)
 
 
-@dataclass(frozen=True)
+@dataclass(frozen=True, repr=False)
 class Counterexample(Negative):
     """A relation need not hold: a timeline that fits, in which it is false."""
 
     relation: Relation
     ranks: Mapping[str, Ranks]
-    evidence: bytes = field(repr=False)
+    evidence: bytes
+    content: bytes = field(default=b"", compare=False, metadata=NOT_SHOWN)
 
 
-@dataclass(frozen=True)
+@dataclass(frozen=True, repr=False)
 class Possible(Result):
     """The base relations of Allen that are possible between two intervals, each with a timeline that fits and has it."""
 
     timelines: Mapping[str, Mapping[str, Ranks]]
 
 
-@dataclass(frozen=True)
+@dataclass(frozen=True, repr=False)
 class Reduced(Result):
     """The links that stay where those that follow from others are left out, and how many links there are in all."""
 
@@ -312,14 +316,14 @@ class Reduced(Result):
     total: int
 
 
-@dataclass(frozen=True)
+@dataclass(frozen=True, repr=False)
 class Consistent(Result):
     """Relations without the least confident one of each clash: those that are kept, in the order in which they were given, those that were
     dropped, from the most confident one on, and the document with the ones that are kept."""
 
     kept: tuple[Relation, ...]
     dropped: tuple[Relation, ...]
-    document: bytes = field(repr=False)
+    document: bytes
 
 
 @dataclass(frozen=True)
@@ -362,24 +366,22 @@ class Score(Result):
 class KeyClash(Negative):
     """No timeline fits the key."""
 
-    def __str__(self) -> str:
-        return "the links of the key cannot all be true"
 
-
-@dataclass(frozen=True)
+@dataclass(frozen=True, repr=False)
 class Placing(Result):
     """Seconds for the intervals of a document that meet its links, its dates and its durations; with the text for `confirm`."""
 
     seconds: Mapping[str, Seconds]
-    text: bytes = field(repr=False)
+    text: bytes
 
 
-@dataclass(frozen=True)
+@dataclass(frozen=True, repr=False)
 class Cycle(Negative):
     """Constraints on seconds that cannot all be met; with the text for `confirm`."""
 
     steps: tuple[Step, ...]
-    text: bytes = field(repr=False)
+    text: bytes
+    content: bytes = field(default=b"", compare=False, metadata=NOT_SHOWN)
 
 
 @dataclass(frozen=True)
@@ -391,7 +393,7 @@ class Claim(Part):
     links: tuple[int, ...] = ()
 
 
-@dataclass(frozen=True)
+@dataclass(frozen=True, repr=False)
 class Verified(Result):
     """Evidence that is right, and what each of its claims shows."""
 
