@@ -10,7 +10,7 @@ from functools import cached_property
 from numbers import Real
 
 from .asking import Answer, Answerer, File, answer_to, content
-from .helping import example
+from .helping import complete
 from .matrices import Matrix, read_matrix
 from .questions import check, dates, spans
 from .reading import cited
@@ -23,7 +23,6 @@ from .writing import Linkables, ends_in, links_in, with_tags
 __all__ = ["consistent"]
 
 
-@example('"samples/rates.xml", [("ei1", "BEFORE", "ei2"), ("ei2", "BEFORE", "ei1")], [0.9, 0.6]')
 def consistent(document: File, links: Linkables, weights: Iterable[float], by: Answerer | None = None) -> Consistent | Fault | TooLong:
     """The relations that are kept where the least confident one of each clash is dropped, until nothing clashes.
 
@@ -110,3 +109,6 @@ def expect_weights(relations: Sequence[Relation], weights: Sequence[float]) -> N
         raise ValueError(f"the weight of {relations[wrong]} is not a number: {weights[wrong]!r}")
     if len(relations) > LINK_LIMIT:
         raise ValueError(f"there are {len(relations):,} relations, and a document may have {LINK_LIMIT:,} links")
+
+
+complete(globals())

@@ -12,7 +12,7 @@ from typing import TypeVar
 
 from .asking import Answer, Answerer, File, answer_to
 from .documents import Document, document_from
-from .helping import example
+from .helping import complete
 from .matrices import Matrix, read_matrix
 from .misuse import expect_words
 from .reading import (
@@ -76,12 +76,12 @@ def clash_of(answer: Answer) -> Clash | Fault | TooLong | None:
     return read_clash(answer.text, accepted_of(answer), answer.files[0]) if answer.status == TmlStatus.CLASH else answer.problem()
 
 
-def unless(problem: Problem | None, read: Callable[[], Found]) -> Problem | Found:
-    """What is read, unless there is a problem."""
-    return read() if problem is None else problem
+def told(answer: Answer, problem: Callable[[Answer], Problem | None], read: Callable[[Answer], Found]) -> Problem | Found:
+    """What an answer says: its problem, or what is read of it if there is none."""
+    found = problem(answer)
+    return read(answer) if found is None else found
 
 
-@example('"samples/rates.xml"')
 def read(document: File, by: Answerer | None = None) -> Document | Fault | TooLong:
     """The model of a document: its events, instances, times, signals and links, with their attributes, texts and places.
 
@@ -99,44 +99,34 @@ def read(document: File, by: Answerer | None = None) -> Document | Fault | TooLo
     return document_from(content, path, read_accepted(answer.text, content), units)
 
 
-@example('"samples/rates.xml"')
 def spans(document: File, by: Answerer | None = None) -> list[Unit] | Fault | TooLong:
     """The units of a document in their order: texts, tags with their attributes, comments and others. Only its source is looked at.
 
     Each has its first byte, counted from 0, and the one after its last.
     """
-    answer = answer_to(by, "spans", document)
-    return unless(answer.problem(), lambda: read_units(answer.text))
+    return told(answer_to(by, "spans", document), Answer.problem, lambda answer: read_units(answer.text))
 
 
-@example('"samples/rates.xml"')
 def check(document: File, by: Answerer | None = None) -> Accepted | Fault | TooLong:
     """What a document has that keeps the rules, or its first fault."""
-    answer = answer_to(by, "check", document)
-    return unless(answer.problem(), lambda: read_accepted(answer.text, answer.files[0]))
+    return told(answer_to(by, "check", document), Answer.problem, lambda answer: read_accepted(answer.text, answer.files[0]))
 
 
-@example('"samples/rates.xml"')
 def dates(document: File, by: Answerer | None = None) -> dict[str, Date] | Fault | TooLong:
     """What the calendar says of each time of a document, by its name: the seconds of its start and its end, from 1970-01-01T00:00:00 on."""
-    answer = answer_to(by, "dates", document)
-    return unless(answer.problem(), lambda: read_dates(answer.text))
+    return told(answer_to(by, "dates", document), Answer.problem, lambda answer: read_dates(answer.text))
 
 
-@example('"samples/rates.xml"')
 def solve(document: File, by: Answerer | None = None) -> Timeline | Clash | Fault | TooLong:
     """The least timeline that fits a document, with a rank for each start and end; or a minimal clash where none does."""
-    answer = answer_to(by, "solve", document)
-    return unless(clash_of(answer), lambda: read_timeline(answer.text, accepted_of(answer), answer.files[0]))
+    return told(answer_to(by, "solve", document), clash_of, lambda answer: read_timeline(answer.text, accepted_of(answer), answer.files[0]))
 
 
-@example('"samples/port.xml"')
 def clash(document: File, by: Answerer | None = None) -> Clash | Fault | TooLong | None:
     """A minimal clash of a document, or nothing where some timeline fits."""
     return clash_of(answer_to(by, "solve", document))
 
 
-@example('"samples/port.xml", most=1')
 def clashes(document: File, most: int | None = None, by: Answerer | None = None) -> list[Clash] | Fault | TooLong:
     """Clashes of a document that have no link in common, each a minimal one: as many as are found one after the other, each of them without
     the links of those before it; or so many at most. Where some timeline fits there are none.
@@ -148,7 +138,7 @@ def clashes(document: File, most: int | None = None, by: Answerer | None = None)
     answer, found = answer_to(by, "solve", document), list[Clash]()
     first = clash_of(answer)
     if not isinstance(first, Clash):
-        return unless(first, lambda: found)
+        return found if first is None else first
     accepted, skeleton, left_out = accepted_of(answer), Skeleton(answer.files[0]), set[int]()
     while first is not None:
         found.append(first)
@@ -162,7 +152,6 @@ def clashes(document: File, most: int | None = None, by: Answerer | None = None)
     return found
 
 
-@example('"samples/rates.xml"')
 def timeline(document: File, by: Answerer | None = None) -> Timeline | Clash | Fault | TooLong:
     """The same as `solve`, with a row for each interval: its words, its ranks, and of a time what the calendar says."""
     found = solve(document, by)
@@ -178,7 +167,6 @@ def timeline(document: File, by: Answerer | None = None) -> Timeline | Clash | F
     return replace(found, rows=tuple(sorted(rows, key=lambda row: (row.start, row.end))))
 
 
-@example('"samples/rates.xml", "ei1", "BEFORE", "ei2"')
 def ask(
     document: File, first: str, relation: str, second: str, by: Answerer | None = None
 ) -> Proof | Counterexample | Clash | Fault | TooLong:
@@ -189,10 +177,9 @@ def ask(
     expect_words(first=first, relation=relation, second=second)
     answer = answer_to(by, "ask", document, arguments=(first, relation, second))
     asked = Relation(first, relation, second)
-    return unless(clash_of(answer), lambda: read_proof(answer.text, asked, accepted_of(answer), answer.files[0]))
+    return told(answer, clash_of, lambda _: read_proof(answer.text, asked, accepted_of(answer), answer.files[0]))
 
 
-@example('"samples/rates.xml", one_per_pair=True')
 def relations(
     document: File, by: Answerer | None = None, *, one_per_pair: bool = False, both_directions: bool = False
 ) -> list[Relation] | Clash | Fault | TooLong:
@@ -225,82 +212,69 @@ def turned(one: Relation) -> Relation:
     return Relation(one.second, INVERSES[one.relation], one.first)
 
 
-@example('"samples/rates.xml", "ei1", "t1"')
 def possible(document: File, first: str, second: str, by: Answerer | None = None) -> Possible | Clash | Fault | TooLong:
     """The base relations that are possible between two intervals, each with a timeline."""
     expect_words(first=first, second=second)
     answer = answer_to(by, "possible", document, arguments=(first, second))
-    return unless(clash_of(answer), lambda: read_possible(answer.text, accepted_of(answer).intervals))
+    return told(answer, clash_of, lambda _: read_possible(answer.text, accepted_of(answer).intervals))
 
 
-@example('"samples/rates.xml"')
 def matrix(document: File, by: Answerer | None = None) -> Matrix | Clash | Fault | TooLong:
     """The base relations that are possible between each two intervals."""
     answer = answer_to(by, "matrix", document)
-    return unless(clash_of(answer), lambda: read_matrix(io.BytesIO(answer.text), accepted_of(answer).intervals))
+    return told(answer, clash_of, lambda _: read_matrix(io.BytesIO(answer.text), accepted_of(answer).intervals))
 
 
-@example('"samples/rates.xml"')
 def reduce(document: File, by: Answerer | None = None) -> Reduced | Clash | Fault | TooLong:
     """The links of a document without those that follow from others."""
-    answer = answer_to(by, "reduce", document)
-    return unless(clash_of(answer), lambda: read_reduced(answer.text, answer.files[0]))
+    return told(answer_to(by, "reduce", document), clash_of, lambda answer: read_reduced(answer.text, answer.files[0]))
 
 
-@example('"samples/first/river.xml", "samples/second/river.xml"')
 def score(document: File, key: File, by: Answerer | None = None) -> Score | Clash | KeyClash | Fault | TooLong:
     """How much of a document follows from a key, and the other way round, as fractions: the temporal awareness of TempEval-3."""
     answer = answer_to(by, "score", document, key)
     if answer.status == TmlStatus.CLASH and answer.text == b"key clash\n":
         return KeyClash()
-    return unless(clash_of(answer), lambda: read_score(answer.text))
+    return told(answer, clash_of, lambda _: read_score(answer.text))
 
 
-@example('"samples/rates.xml"')
 def seconds(document: File, by: Answerer | None = None) -> Placing | Cycle | Fault | TooLong:
     """Seconds for all intervals that meet links, dates and durations, counted from 1970-01-01T00:00:00; or a cycle where there are none."""
     answer = answer_to(by, "seconds", document)
-    return unless(answer.problem(), lambda: read_seconds(answer.text, accepted_of(answer).intervals, answer.files[0]))
+    return told(answer, Answer.problem, lambda _: read_seconds(answer.text, accepted_of(answer).intervals, answer.files[0]))
 
 
-@example('"samples/rates.xml"')
 def canon(document: File, by: Answerer | None = None) -> bytes | Fault | TooLong:
     """The canonical text of a document: two accepted documents have the same exactly where they say the same."""
-    answer = answer_to(by, "canon", document)
-    return unless(answer.problem(), lambda: answer.text)
+    return told(answer_to(by, "canon", document), Answer.problem, lambda answer: answer.text)
 
 
-@example('"samples/rates.xml", proof.evidence')
 def verify(document: File, evidence: File, by: Answerer | None = None) -> Verified | Malformed | Refused | Fault | TooLong:
     """What evidence shows of a document, where it is right."""
-    answer = answer_to(by, "verify", document, evidence)
-    return unless(answer.refusal(), lambda: Verified(read_claims(answer.text)))
+    return told(answer_to(by, "verify", document, evidence), Answer.refusal, lambda answer: Verified(read_claims(answer.text)))
 
 
-@example('"samples/rates.xml", placing.text')
 def confirm(document: File, text: File, by: Answerer | None = None) -> Confirmed | Malformed | Refused | Fault | TooLong:
     """Whether the text of a placing or of a cycle is right for a document."""
     answer = answer_to(by, "confirm", document, text)
-    return unless(answer.refusal(), lambda: Confirmed("placing" if answer.text == b"confirmed placing\n" else "cycle"))
+    return told(answer, Answer.refusal, lambda _: Confirmed("placing" if answer.text == b"confirmed placing\n" else "cycle"))
 
 
-@example("proof.evidence")
 def renew(evidence: File, by: Answerer | None = None) -> bytes | Malformed | TooLong:
     """The same evidence as a text of version 2."""
-    answer = answer_to(by, "renew", evidence)
-    return unless(answer.malformed(), lambda: answer.text)
+    return told(answer_to(by, "renew", evidence), Answer.malformed, lambda answer: answer.text)
 
 
-@example("proof.evidence, clash.evidence")
 def join(evidence: File, second: File, by: Answerer | None = None) -> bytes | Malformed | TooLong:
     """The claims of two texts of evidence as one text."""
-    answer = answer_to(by, "join", evidence, second)
-    return unless(answer.malformed(), lambda: answer.text)
+    return told(answer_to(by, "join", evidence, second), Answer.malformed, lambda answer: answer.text)
 
 
-@example("100")
 def drill(number: int, by: Answerer | None = None) -> Drill:
     """The self-test of the library or the program, over a document of so many events: its bytes, its links, and what was found of them."""
     if number not in range(1, INTERVAL_LIMIT + 1):
         raise ValueError(f"there is no drill {number}")
     return read_drill(answer_to(by, "drill", arguments=(str(number),)).text)
+
+
+complete(globals())

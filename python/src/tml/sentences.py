@@ -8,32 +8,10 @@ from functools import cached_property
 from itertools import groupby
 from typing import Any
 
+from . import results
 from .documents import Document, decoded
 from .lines import Ranks, Step
 from .matrices import Matrix
-from .results import (
-    Accepted,
-    Claim,
-    Clash,
-    Confirmed,
-    Consistent,
-    Counterexample,
-    Cycle,
-    Drill,
-    KeyClash,
-    Link,
-    Malformed,
-    Placing,
-    Possible,
-    Proof,
-    Reduced,
-    Refused,
-    Relation,
-    Score,
-    Timeline,
-    TooLong,
-    Verified,
-)
 from .saying import counted, cut_short, listed, shown
 from .statuses import DOCUMENT_LIMIT, EVIDENCE_LIMIT
 from .tags.cutting import cut
@@ -64,10 +42,10 @@ class Wording:
         return found | {values.get("tid", ""): self.text_of(tag) or values.get("value", "") for tag, values in source.valued("TIMEX3")}
 
     @cached_property
-    def links(self) -> list[Link]:
+    def links(self) -> list[results.Link]:
         """The links by their numbers."""
         said = zip(self.source.links, self.source.tags("TLINK"), strict=True)
-        return [Link(number, *words, self.source.value(tag, "lid") or None) for number, (words, tag) in enumerate(said)]
+        return [results.Link(number, *words, self.source.value(tag, "lid") or None) for number, (words, tag) in enumerate(said)]
 
     def text_of(self, tag: Unit) -> str:
         """The words of a tag."""
@@ -87,11 +65,11 @@ class Wording:
         names = self.source.intervals
         return self.interval(names[number]) if number < len(names) else f"interval {number}"
 
-    def relation(self, one: Relation) -> str:
+    def relation(self, one: results.Relation) -> str:
         """A relation between two intervals."""
         return f"{self.interval(one.first)} {one.relation} {self.interval(one.second)}"
 
-    def link(self, link: Link) -> str:
+    def link(self, link: results.Link) -> str:
         """A link in words, followed by its own."""
         words = f"{self.words_of(link.first)} {link.relation} {self.words_of(link.second)}"
         return str(link) if words == str(link.says()) else f"{words} ({link})"
@@ -120,35 +98,35 @@ def in_order(ranks: Mapping[str, Ranks], wording: Wording, names: Iterable[str] 
     return ", ".join(f"{wording.interval(name)} from {ranks[name].start} to {ranks[name].end}" for name in chosen)
 
 
-def of_tags(answer: Accepted | Document, events: int) -> str:
+def of_tags(answer: results.Accepted | Document, events: int) -> str:
     """How many events, intervals and links a document has."""
     return f"{counted(events, 'event')}, {counted(len(answer.intervals), 'interval')} and {counted(len(answer.links), 'link')}"
 
 
-def of_clash(clash: Clash) -> str:
+def of_clash(clash: results.Clash) -> str:
     """The links of a clash."""
     links = "; ".join(map(Wording(clash.content).link, clash.links))
     if len(clash.links) == 1:
         return f"clash of one link with the dates: {links}"
-    dates = " and the dates" if any(step.kind == "calendar" for step in clash.walk) else ""
-    return f"clash of {counted(len(clash.links), 'link')}{dates}, which cannot all be true: {links}"
+    dates = " with the dates" if any(step.kind == "calendar" for step in clash.walk) else ""
+    return f"clash of {counted(len(clash.links), 'link')}, which cannot all be true{dates}: {links}"
 
 
-def of_proof(proof: Proof) -> str:
+def of_proof(proof: results.Proof) -> str:
     """What is proved, and the links and dates by which each of its walks goes."""
     wording = Wording(proof.content)
     walks = [reasons for reasons in map(wording.reasons, proof.walks) if reasons]
     return f"{wording.relation(proof.relation)}, {'since ' + '; and '.join(walks) if walks else 'whatever the links say'}"
 
 
-def of_counterexample(found: Counterexample) -> str:
+def of_counterexample(found: results.Counterexample) -> str:
     """What does not follow, and the ranks of both intervals in a timeline in which it is false."""
     wording, relation = Wording(found.content), found.relation
     where = in_order(found.ranks, wording, (relation.first, relation.second))
     return f"it does not follow that {wording.relation(relation)}: a timeline that fits has {where}"
 
 
-def of_timeline(timeline: Timeline) -> str:
+def of_timeline(timeline: results.Timeline) -> str:
     """The intervals with their ranks."""
     ranks = in_order(timeline.ranks, Wording(timeline.content))
     return f"timeline of {counted(len(timeline.ranks), 'interval')} by ranks" + (f": {ranks}" if ranks else "")
@@ -160,13 +138,13 @@ def of_matrix(matrix: Matrix) -> str:
     return f"matrix of {counted(len(matrix.intervals), 'interval')}: {decided} of {counted(len(matrix.cells), 'pair')} decided"
 
 
-def of_consistent(found: Consistent) -> str:
+def of_consistent(found: results.Consistent) -> str:
     """How many relations are kept, and which are not."""
     kept = f"{counted(len(found.kept), 'relation')} kept and {len(found.dropped)} dropped"
     return f"{kept}: {listed([*map(str, found.dropped)])}" if len(found.dropped) else kept
 
 
-def of_score(score: Score) -> str:
+def of_score(score: results.Score) -> str:
     """Its measures as fractions, with their counts."""
     values = (measure(value) for value in (score.precision, score.recall, score.f1))
     return "precision {} ({} of {} links), recall {} ({} of {} links), F1 {}".format(
@@ -179,36 +157,36 @@ def measure(value: Fraction | None) -> str:
     return "none" if value is None else str(value)
 
 
-def of_claim(claim: Claim) -> str:
+def of_claim(claim: results.Claim) -> str:
     """What a claim shows."""
     return " ".join([claim.kind, *([str(claim.relation)] if claim.relation else []), *(f"link {link}" for link in claim.links)])
 
 
-def of_too_long(answer: TooLong) -> str:
+def of_too_long(answer: results.TooLong) -> str:
     """The limit of the file."""
     return f"the {answer.file} has more than {DOCUMENT_LIMIT if answer.file in ('document', 'key') else EVIDENCE_LIMIT:,} bytes"
 
 
 SENTENCES: Mapping[type, Callable[[Any], str]] = {
-    Accepted: lambda answer: f"document with {of_tags(answer, answer.events)}",
-    Clash: of_clash,
-    Confirmed: lambda answer: f"the {answer.kind} is right",
-    Consistent: of_consistent,
-    Counterexample: of_counterexample,
-    Cycle: lambda answer: f"cycle of {len(answer.steps)} limits that cannot all be met: {Wording(answer.content).reasons(answer.steps)}",
-    Document: lambda answer: f"{'document' if answer.path is None else shown(answer.path)} with {of_tags(answer, len(answer.events))}",
-    Drill: lambda answer: f"drill of {counted(answer.number, 'event')} and {counted(answer.links, 'link')}: its timeline was verified",
-    KeyClash: lambda answer: "the links of the key cannot all be true",
-    Malformed: lambda answer: f"line {answer.line} of the {answer.file} is malformed",
+    results.Accepted: lambda one: f"document with {of_tags(one, one.events)}",
+    results.Clash: of_clash,
+    results.Confirmed: lambda one: f"the {one.kind} is right",
+    results.Consistent: of_consistent,
+    results.Counterexample: of_counterexample,
+    results.Cycle: lambda one: f"cycle that cannot be met: {Wording(one.content).reasons(one.steps)}",
+    Document: lambda one: f"{'document' if one.path is None else shown(one.path)} with {of_tags(one, len(one.events))}",
+    results.Drill: lambda one: f"drill of {counted(one.number, 'event')} and {counted(one.links, 'link')}: its timeline was verified",
+    results.KeyClash: lambda one: "the links of the key cannot all be true",
+    results.Malformed: lambda one: f"line {one.line} of the {one.file} is malformed",
     Matrix: of_matrix,
-    Placing: lambda answer: f"placing of {counted(len(answer.seconds), 'interval')} in seconds",
-    Possible: lambda answer: f"{counted(len(answer.timelines), 'relation')} possible: {', '.join(answer.timelines)}",
-    Proof: of_proof,
-    Reduced: lambda answer: f"{len(answer.links)} of {counted(answer.total, 'link')} from which the others follow",
-    Refused: lambda answer: f"refused{'' if answer.claim is None else f': claim {answer.claim}, part {answer.part}'}: {answer.reason}",
-    Score: of_score,
-    Timeline: of_timeline,
-    TooLong: of_too_long,
-    Verified: lambda answer: f"verified: {listed([*map(of_claim, answer.claims)])}",
+    results.Placing: lambda one: f"placing of {counted(len(one.seconds), 'interval')} in seconds",
+    results.Possible: lambda one: f"{counted(len(one.timelines), 'relation')} possible: {', '.join(one.timelines)}",
+    results.Proof: of_proof,
+    results.Reduced: lambda one: f"{len(one.links)} of {counted(one.total, 'link')} from which the others follow",
+    results.Refused: lambda one: "refused" + ("" if one.claim is None else f": claim {one.claim}, part {one.part}") + f": {one.reason}",
+    results.Score: of_score,
+    results.Timeline: of_timeline,
+    results.TooLong: of_too_long,
+    results.Verified: lambda one: f"verified: {listed([*map(of_claim, one.claims)])}",
 }
 """How each class of answers is said."""

@@ -11,7 +11,7 @@ from typing import Any, Protocol
 from . import reading
 from .asking import Answerer, File, content
 from .documents import Time, TLink
-from .helping import example
+from .helping import complete
 from .misuse import unknown_interval, unknown_relation
 from .questions import check, spans
 from .results import Accepted, Fault, Link, Relation, TooLong, Unit
@@ -46,7 +46,6 @@ TIME = re.compile(r"(?:[\dX-]+T|T[\dX]).*", re.DOTALL)
 """How the values of durations, of times that come again each year, and of times of the day begin."""
 
 
-@example('"samples/rates.xml", [("ei1", "BEFORE", "ei2")]')
 def with_links(document: File, relations: Linkables, by: Answerer | None = None) -> bytes | Fault | TooLong:
     """A document with other links: without its own TLINK tags, and with one for each relation at the end of its root.
 
@@ -101,7 +100,6 @@ def ends_in(document: bytes, accepted: Accepted, units: Iterable[Unit]) -> Ends:
     return Ends(accepted.intervals, reading.times_of(document), reading.events_of(document), identifiers_of(document, units))
 
 
-@example('[("flood", "BEFORE", "rescue")]')
 def document_of(relations: Linkables, times: Mapping[str, str] | Sequence[Time] | None = None) -> bytes:
     """A document that says these relations and nothing else. A name for which `times` has a value is a time, and all others are events.
 
@@ -201,3 +199,6 @@ class Ends:
             return ""
         self.taken.add(lid)
         return f'lid="{lid}" '
+
+
+complete(globals())
