@@ -75,7 +75,8 @@ class Format(Protocol):
     """Whether the output is for programs, so that a summary goes to standard error."""
 
     def start(self) -> str:
-        """What comes before all pairs."""
+        """What comes before all pairs: mostly nothing."""
+        return ""
 
     def pair(self, report: PairReport, scores: Score) -> str:
         """What is printed of a pair that is counted."""
@@ -87,32 +88,25 @@ class Format(Protocol):
         """What comes after all pairs."""
 
 
-class Text:
+class Text(Format):
     """A line for each pair, below it one for each link that does not follow, and last the sums."""
 
     summary_apart = False
 
-    def start(self) -> str:
-        """What comes before all pairs."""
-        return ""
-
     def pair(self, report: PairReport, scores: Score) -> str:
-        """What is printed of a pair that is counted."""
         lines = [f"{shown(report.name)}: {in_line(scores)}"]
         lines += [f"{located(one.path, one.place)}: {shown(one.said())}" for one in report.disagreements]
         return report.readings + "".join(line + "\n" for line in lines)
 
     def not_counted(self, one: NotCounted) -> str:
-        """What is printed of a file that is not counted."""
         return f"{shown(one.path)}: skipped: {shown(one.text)}\n"
 
     def sums(self, corpus: Corpus) -> str:
-        """What comes after all pairs."""
         precision, recall, f1 = (mean(corpus.macro(measure)) for measure in MEASURES)
         return f"micro: {in_line(corpus.micro)}\nmacro: precision {precision}, recall {recall}, F1 {f1}\n"
 
 
-class Objects:
+class Objects(Format):
     """One object for each pair and each file that is not counted, and last one with the sums: on lines of their own, or as one array."""
 
     summary_apart = True
@@ -124,9 +118,6 @@ class Objects:
         """What is printed of one object."""
         line = printable(entry)
         return line if self.array is None else self.array.element(line)
-
-    def start(self) -> str:
-        return ""
 
     def pair(self, report: PairReport, scores: Score) -> str:
         pair = {"name": report.name, "path": report.path, "key": report.key_path, "readTouching": bool(report.readings)}
@@ -162,7 +153,7 @@ def disagreement_object(one: Disagreement) -> dict[str, object]:
     return {"path": one.path, **place_object(one.place), **link, "words": one.words, **there}
 
 
-class CommaSeparated:
+class CommaSeparated(Format):
     """A row for each pair and each file that is not counted, after one with the names of the columns, and last two with the sums."""
 
     summary_apart = True
