@@ -17,7 +17,7 @@ ARGUMENTS = {
     "first: str": ("the name of an interval: the eiid of a MAKEINSTANCE or the tid of a TIMEX3", '"ei1"'),
     "relation: str": ("a relation, as BEFORE; tml.RELATIONS has all", '"BEFORE"'),
     "second: str": ("the name of another interval, or of the same one", '"ei2"'),
-    "most: int | None": ("how many clashes are wanted, 1 or more; all without it", ""),
+    "most: int | None": ("how many clashes are wanted, 1 or more; by default all", ""),
     "links: Linkables": ("relations in the forms that tml.with_links takes", '[("ei1", "BEFORE", "ei2")]'),
     "relations: Linkables": (
         "triples, links, or rows with first, relation and second: dictionaries, a frame, an array, a generator",
@@ -26,7 +26,7 @@ ARGUMENTS = {
     "times: Mapping[str, str] | Sequence[Time] | None": ("values by the names of times, or times that tml.read answered", ""),
     "weights: Iterable[float]": ("a number for each relation, in the same order", "[0.9]"),
     "number: int": ("how many events, from 1 to 1024", "100"),
-    "by: Answerer | None": ("who answers, a tml.Library or a tml.Process; the one that is found, without it", ""),
+    "by: Answerer | None": ("who answers, a tml.Library or a tml.Process; by default the one that is found", ""),
 }
 """What each argument is, by its name and its type, and a value of it that is an example."""
 
