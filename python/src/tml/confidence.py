@@ -30,8 +30,7 @@ def consistent(document: File, links: Linkables, weights: Iterable[float], by: A
     same weight the one that was given later goes first. So a relation is dropped where it clashes with more confident ones that are kept.
     Relations are those of `with_links`. They and the weights are read once, in order: a column of a frame by its places, not by its labels.
 
-    Three questions are asked, and two more where something clashes, however many relations are dropped. Which ones are to be dropped is
-    counted here; that those which are kept fit, and none of those which are dropped beside them, is what `tml` says.
+    Which ones are to be dropped is counted here; that those which are kept fit, and none of the others next to them, is what `tml` says.
     """
     wanted, confidences, given = links_in(links), list(weights), content(document, DOCUMENT_LIMIT)
     relations = [one.says() for one in wanted]

@@ -9,7 +9,7 @@ from typing import Protocol
 
 from tml.results import Score
 
-from ..check.formats import Array, located, place_object, printable
+from ..check.formats import Array, Lines, located, place_object, printable
 from ..files.finding import counted, shown
 from ..matrix.formats import harmless, in_lines
 from .agree import REASONS, NotCounted, PairReport
@@ -111,13 +111,12 @@ class Objects(Format):
 
     summary_apart = True
 
-    def __init__(self, array: Array | None = None) -> None:
-        self.array = array
+    def __init__(self, objects: Lines) -> None:
+        self.objects = objects
 
     def entry(self, entry: dict[str, object]) -> str:
         """What is printed of one object."""
-        line = printable(entry)
-        return line if self.array is None else self.array.element(line)
+        return self.objects.element(printable(entry))
 
     def pair(self, report: PairReport, scores: Score) -> str:
         pair = {"name": report.name, "path": report.path, "key": report.key_path, "readTouching": bool(report.readings)}
@@ -130,8 +129,7 @@ class Objects(Format):
     def sums(self, corpus: Corpus) -> str:
         means = {measure: corpus.macro(measure) for measure in MEASURES}
         macro = {measure: {"value": one.value, "pairs": one.pairs} for measure, one in means.items()}
-        last = self.entry({"pairs": corpus.pairs, "micro": scores_object(corpus.micro), "macro": macro})
-        return last if self.array is None else last + self.array.end()
+        return self.entry({"pairs": corpus.pairs, "micro": scores_object(corpus.micro), "macro": macro}) + self.objects.end()
 
 
 def scores_object(scores: Score) -> dict[str, object]:
@@ -195,5 +193,5 @@ def printed(form: Format, report: PairReport) -> str:
 
 def make_format(name: str) -> Format:
     """The form of a name."""
-    makers: Mapping[str, Callable[[], Format]] = {"text": Text, "json": lambda: Objects(Array()), "jsonl": Objects, "csv": CommaSeparated}
-    return makers[name]()
+    json: Mapping[str, Callable[[], Lines]] = {"json": Array, "jsonl": Lines}
+    return Objects(json[name]()) if name in json else Text() if name == "text" else CommaSeparated()

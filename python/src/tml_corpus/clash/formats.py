@@ -110,18 +110,17 @@ class Objects(Form):
 
     summary_apart = True
 
-    def __init__(self, checked: bool, array: formats.Array | None = None) -> None:
-        self.checked, self.array = checked, array
+    def __init__(self, checked: bool, objects: formats.Lines) -> None:
+        self.checked, self.objects = checked, objects
 
     def file(self, report: ClashReport) -> str:
-        line = formats.printable(report_object(report, self.checked))
-        return line if self.array is None else self.array.element(line)
+        return self.objects.element(formats.printable(report_object(report, self.checked)))
 
     def plain(self, path: str) -> str:
         return self.file(ClashReport(Judgement(path)))
 
     def end(self, summary: ClashSummary) -> str:
-        return "" if self.array is None else self.array.end()
+        return self.objects.end()
 
 
 def report_object(report: ClashReport, checked: bool) -> dict[str, object]:
@@ -254,7 +253,7 @@ def make_format(name: str, with_source: bool, quiet: bool, checked: bool, strict
     makers: dict[str, Callable[[], form.Form[ClashReport, ClashSummary]]] = {
         "text": lambda: Text(with_source, quiet),
         "json": lambda: Objects(checked, formats.Array()),
-        "jsonl": lambda: Objects(checked),
+        "jsonl": lambda: Objects(checked, formats.Lines()),
         "junit": lambda: JUnit("tml check" if checked else "tml clashes", with_source, strict),
         "github": GitHub,
     }
