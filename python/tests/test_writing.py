@@ -34,7 +34,7 @@ WRITING = {
 MODULES_OF_FILES = {"os", "shutil", "tempfile", "Path", "zipfile", "io", "pathlib"}
 
 ELSEWHERE = {
-    "tml/asking.py: Path(path).open('rb')",
+    "tml/asking.py: open(path, 'rb')",
     "tml/workers.py: os.fdopen(os.dup(1), 'wb')",
     "tml_corpus/asking/archive.py: zipfile.ZipFile(packed, 'w')",
     "tml_corpus/command_line/output.py: os.open(os.devnull, os.O_RDWR)",

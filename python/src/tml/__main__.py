@@ -18,11 +18,27 @@ from .statuses import DOCUMENT_LIMIT, TmlStatus
 
 COMMANDS = ("check", "spans", *DONE)
 
+FORMS = {
+    "score": "DOC KEY", "ask": "DOC X REL Y", "possible": "DOC X Y", "verify": "DOC EVIDENCE", "confirm": "DOC SECONDS",
+    "renew": "EVIDENCE", "join": "EVIDENCE SECOND", "drill": "N",
+}  # fmt: skip
+"""The words after a command, where they are not those of `check`."""
+
+USAGE = "usage: python -m tml COMMAND FILE.. WORD..\n"
+HELP = """
+A file is a path, or - for standard input. docs/COMMANDS.md says what the commands answer.
+Without words, or with --version, this prints the version; without words also who answers:
+the library that TML_LIBRARY names, or the program that TML names, or one that is found.
+"""
+
 
 def main(words: Sequence[str]) -> int:
     """Answers the status."""
     if words in (["--version"], ["-V"]):
         print(f"tml {__version__}")
+        return TmlStatus.DONE
+    if words in (["--help"], ["-h"]):
+        print(USAGE, *(f"  {command} {FORMS.get(command, 'DOC')}" for command in COMMANDS), HELP, sep="\n", end="")
         return TmlStatus.DONE
     try:
         if not words:
@@ -46,7 +62,7 @@ def asked(command: str, *words: str) -> int:
     """The status of one question, whose answer is printed."""
     count = 0 if command == "drill" else len(LIMITS.get(command, (DOCUMENT_LIMIT,)))
     if command not in COMMANDS or len(words) < count:
-        print(f"usage: python -m tml COMMAND FILE.. WORD..\ncommands: {' '.join(COMMANDS)}", file=sys.stderr)
+        print(f"{USAGE}python -m tml --help has the commands", file=sys.stderr)
         return TmlStatus.USAGE
     try:
         limits = LIMITS.get(command, (DOCUMENT_LIMIT,))

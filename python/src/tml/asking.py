@@ -6,7 +6,6 @@ import os
 from collections.abc import Sequence
 from dataclasses import dataclass
 from functools import cache
-from pathlib import Path
 from typing import Any, Protocol
 
 from .documents import Document
@@ -83,7 +82,7 @@ def content(file: File, limit: int) -> bytes:
 def content_at(path: str | os.PathLike[str], limit: int) -> bytes:
     """The bytes of the file at a path."""
     try:
-        with Path(path).open("rb") as opened:
+        with open(path, "rb") as opened:
             return opened.read(limit + 1)
     except (OSError, ValueError):
         # A text that begins with a tag is nowhere a file: somebody gave a document as text.
@@ -104,7 +103,7 @@ class Answer:
 
     def problem(self) -> Fault | TooLong | None:
         """Why there is no answer, where a document has a fault or a file is too long."""
-        return self.too_long() or self.fault()
+        return self.too_long() if self.status == TmlStatus.TOO_LONG else self.fault()
 
     def too_long(self) -> TooLong | None:
         """Which file is too long, where one is."""
@@ -121,17 +120,16 @@ class Answer:
             return read_fault(self.text.removeprefix(OF_KEY), self.files[1], "key")
         return read_fault(self.text, self.files[0], "document")
 
-    def malformed(self) -> Malformed | None:
-        """The bad line of evidence or of a text of seconds, where one has any."""
-        return (
-            read_malformed(self.text, "seconds" if self.command == "confirm" else "evidence")
-            if self.status == TmlStatus.EVIDENCE_FAULT
-            else None
-        )
+    def malformed(self) -> Malformed | TooLong | None:
+        """The bad line of evidence or of a text of seconds, or which file is too long."""
+        if self.status != TmlStatus.EVIDENCE_FAULT:
+            return self.too_long()
+        return read_malformed(self.text, "seconds" if self.command == "confirm" else "evidence")
 
-    def refusal(self) -> Malformed | Refused | None:
-        """Why evidence or a text of seconds is not right, where it is not."""
-        return self.malformed() or (read_refused(self.text) if self.status == TmlStatus.EVIDENCE_FAULT else None)
+    def refusal(self) -> Malformed | Refused | Fault | TooLong | None:
+        """Why evidence or a text of seconds is not right, where it is not, or cannot be looked at."""
+        found = self.fault() if self.status == TmlStatus.DOC_FAULT else self.malformed()
+        return read_refused(self.text) if found is None and self.status == TmlStatus.EVIDENCE_FAULT else found
 
 
 def answer_to(by: Answerer | None, command: str, *files: File, arguments: Sequence[str] = ()) -> Answer:

@@ -3,12 +3,14 @@
 from __future__ import annotations
 
 import io
-import math
 from collections.abc import Collection, Iterable, Sequence
 from dataclasses import dataclass
+from decimal import Decimal
 from functools import cached_property
+from numbers import Real
 
 from .asking import Answer, Answerer, File, answer_to, content
+from .helping import complete
 from .matrices import Matrix, read_matrix
 from .questions import check, dates, spans
 from .reading import cited
@@ -16,35 +18,30 @@ from .results import Consistent, Fault, Relation, TooLong
 from .skeletons import Skeleton
 from .statuses import BESIDE_BASE, DOCUMENT_LIMIT, LINK_LIMIT, TmlStatus
 from .walks import fitting
-from .writing import Linkable, ends_in, relation_of, with_tags
+from .writing import Linkables, ends_in, links_in, with_tags
 
 __all__ = ["consistent"]
 
 
-def consistent(
-    document: File, links: Iterable[Linkable], weights: Sequence[float], by: Answerer | None = None
-) -> Consistent | Fault | TooLong:
+def consistent(document: File, links: Linkables, weights: Iterable[float], by: Answerer | None = None) -> Consistent | Fault | TooLong:
     """The relations that are kept where the least confident one of each clash is dropped, until nothing clashes.
 
     The document gives the intervals and dates, and its own links do not count. A weight says how confident a relation is; of two with the
     same weight the one that was given later goes first. So a relation is dropped where it clashes with more confident ones that are kept.
+    Relations are those of `with_links`. They and the weights are read once, in order: a column of a frame by its places, not by its labels.
 
-    Three questions are asked, and two more where something clashes, however many relations are dropped. Which ones are to be dropped is
-    counted here; that those which are kept fit, and none of those which are dropped beside them, is what `tml` says.
-
-    `ValueError` where there is not one weight for each relation, or one is not a number, or there are more relations than a document may
-    have links; `UnknownName` where one names no interval or is not a relation.
+    Which ones are to be dropped is counted here; that those which are kept fit, and none of the others next to them, is what `tml` says.
     """
-    wanted, given = list(links), content(document, DOCUMENT_LIMIT)
-    relations = [relation_of(one) for one in wanted]
-    expect_weights(relations, weights)
+    wanted, confidences, given = links_in(links), list(weights), content(document, DOCUMENT_LIMIT)
+    relations = [one.says() for one in wanted]
+    expect_weights(relations, confidences)
     accepted, units = check(given, by), spans(given, by)
     if isinstance(accepted, (Fault, TooLong)):
         return accepted
     assert isinstance(units, list)
     ends = ends_in(given, accepted, units)
     tags = [ends.tag(one) for one in wanted]
-    ordered = sorted(range(len(relations)), key=lambda number: (-weights[number], number))
+    ordered = sorted(range(len(relations)), key=confidences.__getitem__, reverse=True)
     kept = Filter(given, accepted.intervals, relations, [tag.encode() for tag in tags], ordered, by).kept()
     made = with_tags(given, units, [tags[number] for number in sorted(kept)])
     dropped = [number for number in ordered if number not in kept]
@@ -97,12 +94,20 @@ def is_possible(matrix: Matrix, relation: Relation) -> bool:
     return relation.relation in base or not BESIDE_BASE.get(relation.relation, frozenset()).isdisjoint(base)
 
 
+def is_number(weight: object) -> bool:
+    """Whether a weight is a number."""
+    return not weight.is_nan() if isinstance(weight, Decimal) else isinstance(weight, Real) and weight == weight
+
+
 def expect_weights(relations: Sequence[Relation], weights: Sequence[float]) -> None:
     """Raises a `ValueError` where the weights are not those of the relations."""
     if len(relations) != len(weights):
         raise ValueError(f"there are {len(relations)} relations and {len(weights)} weights: each relation has one")
-    wrong = next((number for number, weight in enumerate(weights) if math.isnan(weight)), None)
+    wrong = next((number for number, weight in enumerate(weights) if not is_number(weight)), None)
     if wrong is not None:
-        raise ValueError(f"the weight of {relations[wrong]} is not a number")
+        raise ValueError(f"the weight of {relations[wrong]} is not a number: {weights[wrong]!r}")
     if len(relations) > LINK_LIMIT:
         raise ValueError(f"there are {len(relations):,} relations, and a document may have {LINK_LIMIT:,} links")
+
+
+complete(globals())

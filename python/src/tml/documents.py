@@ -9,9 +9,10 @@ import re
 from collections.abc import Iterator, Mapping, Sequence
 from dataclasses import dataclass, field
 from functools import cached_property
-from typing import Any, NamedTuple
+from typing import Any, NamedTuple, TypeVar
 
-from .results import Accepted, Link, Relation, Result, Unit
+from .misuse import ByName, unknown_identifier
+from .results import Accepted, Link, Part, Relation, Result, Unit
 from .running import CannotRun
 
 __all__ = ["Document", "Event", "Instance", "Signal", "Stretch", "Tag", "Time", "TLink"]
@@ -23,6 +24,9 @@ REFERENCE = re.compile(r"&(?:(lt|gt|amp|quot|apos)|#(\d{1,7})|#x([0-9A-Fa-f]{1,6
 SIGNS = {"lt": "<", "gt": ">", "amp": "&", "quot": '"', "apos": "'"}
 APART = "the answers of tml to `check` and `spans` do not belong together"
 
+AnyTag = TypeVar("AnyTag", bound="Tag")
+Default = TypeVar("Default")
+
 
 class Stretch(NamedTuple):
     """A part of something: its first byte or character, counted from 0, and the one after its last."""
@@ -32,7 +36,7 @@ class Stretch(NamedTuple):
 
 
 @dataclass(frozen=True)
-class Tag(Result):
+class Tag(Part):
     """A tag of a document, with what it holds.
 
     `bytes` and `characters` say where it stands in `content` and in `source` of its document, from the beginning of its start tag to the
@@ -41,7 +45,7 @@ class Tag(Result):
 
     name: str
     id: str | None
-    """Its `eid`, `eiid`, `tid`, `sid` or `lid`; only links may have none."""
+    """Its `eid`, `eiid`, `tid`, `sid` or `lid`; only links may have none, or an empty one, which counts as none."""
     attributes: Mapping[str, str] = field(hash=False)
     text: str
     bytes: Stretch
@@ -112,11 +116,11 @@ class TLink(Tag):
         return f"{self.called()}: {self.says()}"
 
 
-@dataclass(frozen=True)
+@dataclass(frozen=True, repr=False)
 class Document(Result):
-    """An accepted document. Each question takes it in the place of bytes or a path."""
+    """An accepted document. Each question takes it in the place of bytes or a path. It contains its tags by their identifiers."""
 
-    content: bytes = field(repr=False)
+    content: bytes
     """Its bytes."""
     path: str | None
     """Where it lay, if that is known."""
@@ -128,7 +132,7 @@ class Document(Result):
     """The TLINK tags, by their numbers."""
     other_links: tuple[Tag, ...]
     """The ALINK and SLINK tags."""
-    text: str = field(repr=False)
+    text: str
     """What can be read in it: the texts between its tags, with references decoded."""
 
     @cached_property
@@ -139,27 +143,43 @@ class Document(Result):
     @cached_property
     def intervals(self) -> Mapping[str, Instance | Time]:
         """Its instances and times by their names, in the order of their tags, which is that of their numbers."""
-        found: list[Instance | Time] = sorted([*self.instances, *self.times], key=lambda one: one.bytes.start)
-        return {str(one.id): one for one in found}
+        found: list[Instance | Time] = in_order(*self.instances, *self.times)
+        return ByName((str(one.id), one) for one in found)
 
     @cached_property
     def by_identifier(self) -> Mapping[str, Tag]:
-        """Its tags by their identifiers."""
-        tags: tuple[Tag, ...] = (*self.events, *self.instances, *self.times, *self.signals, *self.links, *self.other_links)
+        """Its tags by their identifiers, in their order."""
+        tags = in_order(*self.events, *self.instances, *self.times, *self.signals, *self.links, *self.other_links)
         return {one.id: one for one in tags if one.id is not None}
 
     def __getitem__(self, identifier: str) -> Tag:
         """The tag with an identifier; `UnknownName` where there is none."""
-        from .misuse import unknown_identifier
-
         if identifier not in self.by_identifier:
             raise unknown_identifier(identifier, list(self.by_identifier))
         return self.by_identifier[identifier]
+
+    def __contains__(self, identifier: object) -> bool:
+        return identifier in self.by_identifier
+
+    def __iter__(self) -> Iterator[str]:
+        return iter(self.by_identifier)
+
+    def __len__(self) -> int:
+        return len(self.by_identifier)
+
+    def get(self, identifier: str, default: Default | None = None) -> Tag | Default | None:
+        """The tag with an identifier, or the default if there is none."""
+        return self.by_identifier.get(identifier, default)
 
     @property
     def creation_time(self) -> Time | None:
         """The time at which it was made, where it says one."""
         return next((one for one in self.times if one.attributes.get("functionInDocument") == "CREATION_TIME"), None)
+
+
+def in_order(*tags: AnyTag) -> list[AnyTag]:
+    """Tags by their places."""
+    return sorted(tags, key=lambda one: one.bytes.start)
 
 
 def document_from(content: bytes, path: str | None, accepted: Accepted, units: Sequence[Unit]) -> Document:
@@ -251,7 +271,7 @@ class Reader:
         place, words = Stretch(unit.start, self.units[end].end), Stretch(self.before[number], self.before[end])
         return {
             "name": unit.name,
-            "id": attributes.get(IDENTIFIERS[str(unit.name)]),
+            "id": attributes.get(IDENTIFIERS[str(unit.name)]) or None,
             "attributes": attributes,
             "text": self.text[words.start : words.end],
             "bytes": place,

@@ -12,7 +12,7 @@ from typing import TYPE_CHECKING, Any, Generic, NamedTuple, TypeVar, overload
 from .attempts import attempted, cause
 from .documents import Document
 from .questions import read
-from .results import Fault, Result, TooLong
+from .results import Fault, Negative, TooLong
 from .workers import Lost, Workers, sendable
 
 if TYPE_CHECKING:
@@ -36,7 +36,7 @@ Found = tuple[str, "NotAnswered | None"]
 
 
 @dataclass(frozen=True)
-class NotAnswered(Result):
+class NotAnswered(Negative):
     """Why there is no answer about a file: it cannot be read, the question raised something, or the process that was asked ended.
 
     Of a folder it says that nothing was found there, or that it cannot be read.
@@ -75,13 +75,15 @@ def folder(paths: Paths, question: Callable[[str], Any] = read, jobs: int | None
 
     If a file cannot be read, or takes its process along, or the question raises anything about it, the answer is a `NotAnswered` with
     the cause, and the others go on.
+
+        tml.folder("samples", tml.check, jobs=2)
     """
     if jobs is not None and jobs < 1:
         raise ValueError(f"jobs is how many processes are asked, 1 or more, and not {jobs}")
     found = files_of(paths)
     count = jobs or len(os.sched_getaffinity(0))
     if count == 1:
-        return (Answered(path, unread or attempted(question, path, not_answered)) for path, unread in found)
+        return (Answered(path, attempted(question, path, not_answered) if unread is None else unread) for path, unread in found)
     return asked_of_workers(found, sendable(question), count)
 
 

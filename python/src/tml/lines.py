@@ -7,6 +7,8 @@ from collections.abc import Iterator, Mapping, Sequence
 from itertools import chain
 from typing import NamedTuple
 
+from .misuse import ByName
+
 __all__ = ["Ranks", "Step"]
 
 
@@ -61,7 +63,7 @@ class Evidence:
 
     def ranks(self, names: Sequence[str]) -> Mapping[str, Ranks]:
         """A timeline, by the names of the intervals."""
-        return {name: Ranks(int(start), int(end)) for name, (_, start, end) in zip(names, self.counted(), strict=True)}
+        return ByName((name, Ranks(int(start), int(end))) for name, (_, start, end) in zip(names, self.counted(), strict=True))
 
     def walk(self) -> tuple[Step, ...]:
         """A walk."""

@@ -10,6 +10,7 @@ from functools import cached_property
 from typing import TYPE_CHECKING, Any
 
 from .misuse import unknown_interval
+from .results import Result
 from .running import CannotRun
 from .statuses import BASE_RELATIONS, INVERSES
 
@@ -28,13 +29,13 @@ def turned(relations: Relations) -> Relations:
     return tuple(relation for relation in BASE_RELATIONS if relation in others)
 
 
-@dataclass
-class Matrix:
+@dataclass(repr=False)
+class Matrix(Result):
     """Of each two intervals the base relations that are possible between them. There are few different sets of these."""
 
     intervals: Sequence[str]
     sets: list[Relations] = field(default_factory=list)
-    cells: array[int] = field(default_factory=lambda: array("H"), repr=False)
+    cells: array[int] = field(default_factory=lambda: array("H"))
     """The numbers of the sets: of each interval and each one after it, in order."""
 
     def place(self, left: int, right: int) -> int:

@@ -8,13 +8,8 @@ from itertools import islice
 from .markup import Child, Markup, element, lined
 from .matrices import Matrix
 from .results import Clash, Fault, Row, Timeline
-from .saying import counted
-from .tags.cutting import cut
-from .tags.source import Source
-from .tags.units import Unit
-
-LONGEST = 40
-"""How many characters of the words of an interval are shown."""
+from .saying import counted, cut_short
+from .sentences import Wording
 
 MOST_INTERVALS = 40
 """How many intervals of a matrix are shown."""
@@ -31,44 +26,15 @@ COLOURS = {"event": "#0072b2", "time": "#e69f00"}
 CELL = "border:1px solid #8886;padding:2px 6px;text-align:left"
 
 
-def cut_short(text: str, longest: int = LONGEST) -> str:
-    """A text on one line, cut where it is long."""
-    line = " ".join(text.split())
-    return line if len(line) <= longest else line[: longest - 1] + "\u2026"
-
-
 def html_of_fault(fault: Fault) -> str:
     """A fault: its message, and the line of the file with a mark below the words that it speaks of."""
-    where = f"{fault.line}:{fault.column}: {fault.number} {fault.name}"
-    message = element("p", element("strong", where), ": ", cut_short(fault.message, 2000))
+    message = element("p", element("strong", fault.where), ": ", cut_short(fault.message, 2000))
     return element("div", message, element("pre", "\n".join(fault.mark))).text
-
-
-def words_of(content: bytes) -> dict[str, str]:
-    """The words of the intervals of an accepted document, by their names: the texts of events and times, and of empty times the values."""
-    units = cut(content)
-    if units is None:
-        return {}
-    source = Source(content, units)
-    events = source.identified("EVENT")
-    found = {
-        values.get("eiid", ""): text_of(source, events[values.get("eventID", "")])
-        for _, values in source.valued("MAKEINSTANCE")
-        if values.get("eventID", "") in events
-    }
-    return found | {values.get("tid", ""): text_of(source, tag) or values.get("value", "") for tag, values in source.valued("TIMEX3")}
-
-
-def text_of(source: Source, tag: Unit) -> str:
-    """The words of a tag."""
-    from .documents import decoded
-
-    return decoded(source.words_of(tag)).strip()
 
 
 def html_of_clash(clash: Clash) -> str:
     """A clash: a row for each of its links, in the words of the document."""
-    words = words_of(clash.content)
+    words = Wording(clash.content).words
     rows = (row_of_cells(link.called(), [interval(link.first, words), link.relation, interval(link.second, words)]) for link in clash.links)
     dated = " by the dates of the document" if any(step.kind == "calendar" for step in clash.walk) else ""
     return table(f"{counted(len(clash.links), 'link')} that cannot all be true{dated}", rows)

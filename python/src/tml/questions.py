@@ -1,23 +1,20 @@
-"""The questions: a function for each command of `tml`.
-
-Documents, keys, evidence and seconds are bytes, or paths of files; a document may also be what `read` answered. Where a document has a
-fault the answer is a `Fault`, and where a file has more bytes than it may it is a `TooLong`. Raised is only what no bytes can cause:
-that a name is none of the document's (`UnknownName`),
-that a document is neither bytes nor a path (`TypeError`), that a file cannot be read (`OSError`), that memory is out (`MemoryError`),
-and that neither the library nor the program is there (`CannotRun`). `by` is who answers, a `Library` or a `Process`; without it the one
-that is found does.
-"""
+"""The questions: a function for each command of `tml`. Of a document with a fault the answer is a `Fault`, of a long file a `TooLong`."""
 
 from __future__ import annotations
 
 import io
 import os
-from collections.abc import Iterable
+from collections.abc import Callable, Iterable
+from dataclasses import replace
 from itertools import chain
+from numbers import Integral
+from typing import TypeVar
 
 from .asking import Answer, Answerer, File, answer_to
 from .documents import Document, document_from
+from .helping import complete
 from .matrices import Matrix, read_matrix
+from .misuse import expect_words
 from .reading import (
     read_accepted,
     read_claims,
@@ -65,15 +62,24 @@ __all__ = [
     "renew", "score", "seconds", "solve", "spans", "timeline", "verify",
 ]  # fmt: skip
 
+Found = TypeVar("Found")
+Problem = TypeVar("Problem")
+
 
 def accepted_of(answer: Answer) -> Accepted:
     """What the document of a question has, which was accepted: its intervals and links have names and numbers there."""
     return read_accepted(answer_to(answer.by, "check", answer.files[0]).text, answer.files[0])
 
 
-def clash_of(answer: Answer) -> Clash | None:
-    """The clash that is the answer where no timeline fits."""
-    return read_clash(answer.text, accepted_of(answer), answer.files[0]) if answer.status == TmlStatus.CLASH else None
+def clash_of(answer: Answer) -> Clash | Fault | TooLong | None:
+    """The clash that is the answer where no timeline fits, or why nothing can be said of one."""
+    return read_clash(answer.text, accepted_of(answer), answer.files[0]) if answer.status == TmlStatus.CLASH else answer.problem()
+
+
+def told(answer: Answer, problem: Callable[[Answer], Problem | None], read: Callable[[Answer], Found]) -> Problem | Found:
+    """What an answer says: its problem, or what is read of it if there is none."""
+    found = problem(answer)
+    return read(answer) if found is None else found
 
 
 def read(document: File, by: Answerer | None = None) -> Document | Fault | TooLong:
@@ -94,33 +100,31 @@ def read(document: File, by: Answerer | None = None) -> Document | Fault | TooLo
 
 
 def spans(document: File, by: Answerer | None = None) -> list[Unit] | Fault | TooLong:
-    """The units of a document in their order: texts, tags with their attributes, comments and others. Only its source is looked at."""
-    answer = answer_to(by, "spans", document)
-    return answer.problem() or read_units(answer.text)
+    """The units of a document in their order: texts, tags with their attributes, comments and others. Only its source is looked at.
+
+    Each has its first byte, counted from 0, and the one after its last.
+    """
+    return told(answer_to(by, "spans", document), Answer.problem, lambda answer: read_units(answer.text))
 
 
 def check(document: File, by: Answerer | None = None) -> Accepted | Fault | TooLong:
     """What a document has that keeps the rules, or its first fault."""
-    answer = answer_to(by, "check", document)
-    return answer.problem() or read_accepted(answer.text, answer.files[0])
+    return told(answer_to(by, "check", document), Answer.problem, lambda answer: read_accepted(answer.text, answer.files[0]))
 
 
 def dates(document: File, by: Answerer | None = None) -> dict[str, Date] | Fault | TooLong:
-    """What the calendar says of each time of a document, by its name."""
-    answer = answer_to(by, "dates", document)
-    return answer.problem() or read_dates(answer.text)
+    """What the calendar says of each time of a document, by its name: the seconds of its start and its end, from 1970-01-01T00:00:00 on."""
+    return told(answer_to(by, "dates", document), Answer.problem, lambda answer: read_dates(answer.text))
 
 
 def solve(document: File, by: Answerer | None = None) -> Timeline | Clash | Fault | TooLong:
-    """The least timeline that fits a document, or a minimal clash where none does."""
-    answer = answer_to(by, "solve", document)
-    return answer.problem() or clash_of(answer) or read_timeline(answer.text, accepted_of(answer))
+    """The least timeline that fits a document, with a rank for each start and end; or a minimal clash where none does."""
+    return told(answer_to(by, "solve", document), clash_of, lambda answer: read_timeline(answer.text, accepted_of(answer), answer.files[0]))
 
 
 def clash(document: File, by: Answerer | None = None) -> Clash | Fault | TooLong | None:
     """A minimal clash of a document, or nothing where some timeline fits."""
-    answer = answer_to(by, "solve", document)
-    return answer.problem() or clash_of(answer)
+    return clash_of(answer_to(by, "solve", document))
 
 
 def clashes(document: File, most: int | None = None, by: Answerer | None = None) -> list[Clash] | Fault | TooLong:
@@ -129,13 +133,12 @@ def clashes(document: File, most: int | None = None, by: Answerer | None = None)
 
     Left out, the links of all of them together leave no clash. There may be other clashes, which have a link in common with one of these.
     """
-    answer = answer_to(by, "solve", document)
-    problem = answer.problem()
-    if problem is not None:
-        return problem
-    first, found = clash_of(answer), list[Clash]()
-    if first is None:
-        return found
+    if most is not None and (isinstance(most, bool) or not isinstance(most, Integral) or most < 1):
+        raise ValueError(f"most is how many clashes are wanted, 1 or more, and not {most!r}")
+    answer, found = answer_to(by, "solve", document), list[Clash]()
+    first = clash_of(answer)
+    if not isinstance(first, Clash):
+        return found if first is None else first
     accepted, skeleton, left_out = accepted_of(answer), Skeleton(answer.files[0]), set[int]()
     while first is not None:
         found.append(first)
@@ -150,7 +153,7 @@ def clashes(document: File, most: int | None = None, by: Answerer | None = None)
 
 
 def timeline(document: File, by: Answerer | None = None) -> Timeline | Clash | Fault | TooLong:
-    """The least timeline that fits a document, with a row of words and dates for each interval; or a minimal clash where none does."""
+    """The same as `solve`, with a row for each interval: its words, its ranks, and of a time what the calendar says."""
     found = solve(document, by)
     if not isinstance(found, Timeline):
         return found
@@ -161,15 +164,20 @@ def timeline(document: File, by: Answerer | None = None) -> Timeline | Clash | F
         Row(name, one.text or one.attributes.get("value", ""), "time" if name in said else "event", *found.ranks[name], said.get(name))
         for name, one in model.intervals.items()
     )
-    return Timeline(found.ranks, found.evidence, tuple(sorted(rows, key=lambda row: (row.start, row.end))))
+    return replace(found, rows=tuple(sorted(rows, key=lambda row: (row.start, row.end))))
 
 
 def ask(
     document: File, first: str, relation: str, second: str, by: Answerer | None = None
 ) -> Proof | Counterexample | Clash | Fault | TooLong:
-    """Whether a relation holds between two intervals in every timeline that fits: a proof, or a timeline in which it is false."""
+    """Whether a relation holds between two intervals in every timeline that fits: a proof, or a timeline in which it is false.
+
+    A timeline has a rank for each start and end, of which only the order counts.
+    """
+    expect_words(first=first, relation=relation, second=second)
     answer = answer_to(by, "ask", document, arguments=(first, relation, second))
-    return answer.problem() or clash_of(answer) or read_proof(answer.text, Relation(first, relation, second), accepted_of(answer))
+    asked = Relation(first, relation, second)
+    return told(answer, clash_of, lambda _: read_proof(answer.text, asked, accepted_of(answer), answer.files[0]))
 
 
 def relations(
@@ -181,7 +189,7 @@ def relations(
     start and the same end. With `both_directions` each is followed by the same the other way round.
     """
     answer = answer_to(by, "relations", document)
-    problem = answer.problem() or clash_of(answer)
+    problem = clash_of(answer)
     if problem is not None:
         return problem
     found = read_relations(answer.text)
@@ -206,68 +214,67 @@ def turned(one: Relation) -> Relation:
 
 def possible(document: File, first: str, second: str, by: Answerer | None = None) -> Possible | Clash | Fault | TooLong:
     """The base relations that are possible between two intervals, each with a timeline."""
+    expect_words(first=first, second=second)
     answer = answer_to(by, "possible", document, arguments=(first, second))
-    return answer.problem() or clash_of(answer) or read_possible(answer.text, accepted_of(answer).intervals)
+    return told(answer, clash_of, lambda _: read_possible(answer.text, accepted_of(answer).intervals))
 
 
 def matrix(document: File, by: Answerer | None = None) -> Matrix | Clash | Fault | TooLong:
     """The base relations that are possible between each two intervals."""
     answer = answer_to(by, "matrix", document)
-    return answer.problem() or clash_of(answer) or read_matrix(io.BytesIO(answer.text), accepted_of(answer).intervals)
+    return told(answer, clash_of, lambda _: read_matrix(io.BytesIO(answer.text), accepted_of(answer).intervals))
 
 
 def reduce(document: File, by: Answerer | None = None) -> Reduced | Clash | Fault | TooLong:
     """The links of a document without those that follow from others."""
-    answer = answer_to(by, "reduce", document)
-    return answer.problem() or clash_of(answer) or read_reduced(answer.text, answer.files[0])
+    return told(answer_to(by, "reduce", document), clash_of, lambda answer: read_reduced(answer.text, answer.files[0]))
 
 
 def score(document: File, key: File, by: Answerer | None = None) -> Score | Clash | KeyClash | Fault | TooLong:
-    """How much of a document follows from a key, and the other way round: the temporal awareness of TempEval-3."""
+    """How much of a document follows from a key, and the other way round, as fractions: the temporal awareness of TempEval-3."""
     answer = answer_to(by, "score", document, key)
     if answer.status == TmlStatus.CLASH and answer.text == b"key clash\n":
         return KeyClash()
-    return answer.problem() or clash_of(answer) or read_score(answer.text)
+    return told(answer, clash_of, lambda _: read_score(answer.text))
 
 
 def seconds(document: File, by: Answerer | None = None) -> Placing | Cycle | Fault | TooLong:
-    """Seconds for all intervals that meet the links, the dates and the durations of a document; or a cycle where there are none."""
+    """Seconds for all intervals that meet links, dates and durations, counted from 1970-01-01T00:00:00; or a cycle where there are none."""
     answer = answer_to(by, "seconds", document)
-    return answer.problem() or read_seconds(answer.text, accepted_of(answer).intervals)
+    return told(answer, Answer.problem, lambda _: read_seconds(answer.text, accepted_of(answer).intervals, answer.files[0]))
 
 
 def canon(document: File, by: Answerer | None = None) -> bytes | Fault | TooLong:
     """The canonical text of a document: two accepted documents have the same exactly where they say the same."""
-    answer = answer_to(by, "canon", document)
-    return answer.problem() or answer.text
+    return told(answer_to(by, "canon", document), Answer.problem, lambda answer: answer.text)
 
 
 def verify(document: File, evidence: File, by: Answerer | None = None) -> Verified | Malformed | Refused | Fault | TooLong:
     """What evidence shows of a document, where it is right."""
-    answer = answer_to(by, "verify", document, evidence)
-    return answer.problem() or answer.refusal() or Verified(read_claims(answer.text))
+    return told(answer_to(by, "verify", document, evidence), Answer.refusal, lambda answer: Verified(read_claims(answer.text)))
 
 
 def confirm(document: File, text: File, by: Answerer | None = None) -> Confirmed | Malformed | Refused | Fault | TooLong:
     """Whether the text of a placing or of a cycle is right for a document."""
     answer = answer_to(by, "confirm", document, text)
-    return answer.problem() or answer.refusal() or Confirmed("placing" if answer.text == b"confirmed placing\n" else "cycle")
+    return told(answer, Answer.refusal, lambda _: Confirmed("placing" if answer.text == b"confirmed placing\n" else "cycle"))
 
 
 def renew(evidence: File, by: Answerer | None = None) -> bytes | Malformed | TooLong:
     """The same evidence as a text of version 2."""
-    answer = answer_to(by, "renew", evidence)
-    return answer.too_long() or answer.malformed() or answer.text
+    return told(answer_to(by, "renew", evidence), Answer.malformed, lambda answer: answer.text)
 
 
 def join(evidence: File, second: File, by: Answerer | None = None) -> bytes | Malformed | TooLong:
     """The claims of two texts of evidence as one text."""
-    answer = answer_to(by, "join", evidence, second)
-    return answer.too_long() or answer.malformed() or answer.text
+    return told(answer_to(by, "join", evidence, second), Answer.malformed, lambda answer: answer.text)
 
 
 def drill(number: int, by: Answerer | None = None) -> Drill:
-    """The self-test of the library or the program, over a document of so many events, from 1 to 1024."""
+    """The self-test of the library or the program, over a document of so many events: its bytes, its links, and what was found of them."""
     if number not in range(1, INTERVAL_LIMIT + 1):
         raise ValueError(f"there is no drill {number}")
     return read_drill(answer_to(by, "drill", arguments=(str(number),)).text)
+
+
+complete(globals())

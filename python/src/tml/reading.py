@@ -8,6 +8,7 @@ from itertools import islice
 from typing import Any
 
 from .lines import Evidence, lines_of, step_of
+from .misuse import ByName
 from .places import Places
 from .results import (
     Accepted,
@@ -61,7 +62,7 @@ def tags_of(document: bytes, name: bytes) -> Iterator[dict[bytes, str]]:
 
 def lids_of(document: bytes) -> list[str | None]:
     """The lid of each TLINK of an accepted document, in their order; None where it has none."""
-    return [values.get(b"lid") for values in tags_of(document, b"TLINK")]
+    return [values.get(b"lid") or None for values in tags_of(document, b"TLINK")]
 
 
 def times_of(document: bytes) -> set[str]:
@@ -136,9 +137,9 @@ def read_relations(text: bytes) -> list[Relation]:
     return [Relation(first, relation, second) for first, relation, second in lines_of(text)]
 
 
-def read_timeline(text: bytes, of: Accepted) -> Timeline:
+def read_timeline(text: bytes, of: Accepted, document: bytes) -> Timeline:
     """A timeline that was printed as evidence."""
-    return Timeline(Evidence(text).ranks(of.intervals), text)
+    return Timeline(Evidence(text).ranks(of.intervals), text, content=document)
 
 
 def cited(text: bytes) -> list[int]:
@@ -153,15 +154,15 @@ def read_clash(text: bytes, of: Accepted, document: bytes) -> Clash:
     return Clash(links, lines.walk(), of.intervals, text, document)
 
 
-def read_proof(text: bytes, relation: Relation, of: Accepted) -> Proof | Counterexample:
+def read_proof(text: bytes, relation: Relation, of: Accepted, document: bytes) -> Proof | Counterexample:
     """What was printed as evidence on a relation."""
     lines = Evidence(text)
     if next(lines.rest)[0] == "counter":
-        return Counterexample(relation, lines.ranks(of.intervals), text)
+        return Counterexample(relation, lines.ranks(of.intervals), text, document)
     walks = []
     while lines.peek() != ["end"]:
         walks.append(lines.walk())
-    return Proof(relation, tuple(walks), text)
+    return Proof(relation, tuple(walks), text, document)
 
 
 def read_possible(text: bytes, names: Sequence[str]) -> Possible:
@@ -183,12 +184,12 @@ def read_score(text: bytes) -> Score:
     return Score(int(matched), int(links), int(found), int(key_links))
 
 
-def read_seconds(text: bytes, names: Sequence[str]) -> Placing | Cycle:
+def read_seconds(text: bytes, names: Sequence[str], document: bytes) -> Placing | Cycle:
     """A placing by the names of the intervals, or a cycle."""
     _, (kind, _), *lines, _ = lines_of(text)
     if kind == "cycle":
-        return Cycle(tuple(map(step_of, lines)), text)
-    return Placing({name: Seconds(int(start), int(end)) for name, (_, start, end) in zip(names, lines, strict=True)}, text)
+        return Cycle(tuple(map(step_of, lines)), text, document)
+    return Placing(ByName((name, Seconds(int(start), int(end))) for name, (_, start, end) in zip(names, lines, strict=True)), text)
 
 
 def read_claims(text: bytes) -> tuple[Claim, ...]:

@@ -9,11 +9,10 @@ from collections.abc import Mapping
 from dataclasses import astuple, dataclass, field
 from fractions import Fraction
 from functools import cached_property
-from typing import TYPE_CHECKING, Any, Literal, NamedTuple
+from typing import TYPE_CHECKING, Any, Literal, NamedTuple, NoReturn
 
 from .lines import Evidence, Ranks, Step
-from .saying import counted
-from .statuses import DOCUMENT_LIMIT, EVIDENCE_LIMIT
+from .saying import cut_short
 
 if TYPE_CHECKING:
     from .explaining.telling import Told
@@ -24,18 +23,52 @@ __all__ = [
     "TooLong", "Unit", "Verified",
 ]  # fmt: skip
 
+LONGEST = 300
+"""How many characters of a sentence stand in a `repr`."""
+
 NOT_SHOWN = {"not shown": True}
 """What is noted of a field that is for later questions, and no part of an answer."""
 
 
-class Result:
-    """What every answer has."""
+class Part:
+    """What answers and their parts have."""
 
     def to_dict(self) -> dict[str, Any]:
-        """The answer as a dictionary of what `json` takes: with its fields by their names, and the name of its class as `result`."""
+        """This as a dictionary of what `json` takes: its fields by their names, and the name of its class as `result`."""
         from .dictionaries import dictionary_of
 
         return dictionary_of(self)
+
+
+class Result(Part):
+    """What every answer has. It has no truth value: `if answer` raises a `TypeError`, so that no clash is taken for a yes."""
+
+    @property
+    def ok(self) -> bool:
+        """Whether the answer says yes. Faults, clashes, counterexamples and what is refused say no."""
+        return True
+
+    def __bool__(self) -> NoReturn:
+        raise TypeError(
+            f"{type(self).__name__} has no truth value: .ok is whether the answer says yes, and match or isinstance tell answers apart"
+        )
+
+    def __str__(self) -> str:
+        from .sentences import sentence
+
+        return sentence(self)
+
+    def __repr__(self) -> str:
+        return f"<{type(self).__name__}: {cut_short(str(self), LONGEST)}>"
+
+
+class Negative(Result):
+    """What every answer has that says no."""
+
+    @property
+    def ok(self) -> bool:
+        """False: the answer says no."""
+        return False
 
 
 class Relation(NamedTuple):
@@ -86,7 +119,7 @@ class Seconds(NamedTuple):
 
 
 @dataclass(frozen=True)
-class Fault(Result):
+class Fault(Negative):
     """The first fault of a document, or of a key: its number and name, the byte where it is, from 0, and the line and column, from 1.
 
     What is wrong and how it is mended is found once it is asked for, by `message`, `mark` or `str`.
@@ -118,8 +151,13 @@ class Fault(Result):
         """The line of the file that the message speaks of, and below it a line with a mark under the words."""
         return self.told.mark
 
+    @property
+    def where(self) -> str:
+        """The place and the kind of the fault, and whether it is one of the key."""
+        return f"{'key ' * (self.file == 'key')}{self.line}:{self.column}: {self.number} {self.name}"
+
     def __str__(self) -> str:
-        return f"{self.line}:{self.column}: {self.number} {self.name}: {self.message}"
+        return f"{self.where}: {self.message}"
 
     def _repr_html_(self) -> str:
         from .notebooks import html_of_fault
@@ -128,17 +166,13 @@ class Fault(Result):
 
 
 @dataclass(frozen=True)
-class TooLong(Result):
+class TooLong(Negative):
     """A file has more bytes than it may."""
 
     file: Literal["document", "key", "evidence", "second", "seconds"]
 
-    def __str__(self) -> str:
-        limit = DOCUMENT_LIMIT if self.file in ("document", "key") else EVIDENCE_LIMIT
-        return f"the {self.file} has more than {limit:,} bytes"
 
-
-@dataclass(frozen=True)
+@dataclass(frozen=True, repr=False)
 class Accepted(Result):
     """A document that keeps the rules: how many tags it has of each kind, and its intervals and links in their order."""
 
@@ -154,7 +188,7 @@ class Accepted(Result):
 
 
 @dataclass(frozen=True)
-class Date(Result):
+class Date(Part):
     """What the calendar says of a time.
 
     It is `exact`, with the second at which it starts and the first one after it; or `within` two such seconds; or `free`, with none.
@@ -169,7 +203,7 @@ class Date(Result):
 
 
 @dataclass(frozen=True)
-class Attribute(Result):
+class Attribute(Part):
     """An attribute of a tag: from the first byte of its name to the one after its closing quote."""
 
     start: int
@@ -178,7 +212,7 @@ class Attribute(Result):
 
 
 @dataclass(frozen=True)
-class Unit(Result):
+class Unit(Part):
     """A unit of a document: its first byte, the one after it, its kind, and of a tag the name and the attributes."""
 
     start: int
@@ -203,7 +237,7 @@ class Row(NamedTuple):
         return {**self._asdict(), "date": None if self.date is None else self.date.to_dict()}
 
 
-@dataclass(frozen=True)
+@dataclass(frozen=True, repr=False)
 class Timeline(Result):
     """The least timeline that fits a document, by the names of its intervals: each start and end has a rank, and only their order counts.
 
@@ -211,8 +245,9 @@ class Timeline(Result):
     """
 
     ranks: Mapping[str, Ranks]
-    evidence: bytes = field(repr=False)
-    rows: tuple[Row, ...] = field(default=(), repr=False, compare=False)
+    evidence: bytes
+    rows: tuple[Row, ...] = field(default=(), compare=False)
+    content: bytes = field(default=b"", compare=False, metadata=NOT_SHOWN)
 
     def _repr_svg_(self) -> str:
         from .notebooks import svg_of_timeline
@@ -220,21 +255,16 @@ class Timeline(Result):
         return svg_of_timeline(self)
 
 
-@dataclass(frozen=True)
-class Clash(Result):
+@dataclass(frozen=True, repr=False)
+class Clash(Negative):
     """Links that cannot all be true, as the walk shows, though any one of them left out, the others can."""
 
     links: tuple[Link, ...]
     walk: tuple[Step, ...]
-    intervals: tuple[str, ...] = field(repr=False)
-    evidence: bytes = field(repr=False)
-    content: bytes = field(default=b"", repr=False, compare=False, metadata=NOT_SHOWN)
+    intervals: tuple[str, ...]
+    evidence: bytes
+    content: bytes = field(default=b"", compare=False, metadata=NOT_SHOWN)
     """The bytes of the document."""
-
-    def __str__(self) -> str:
-        if len(self.links) == 1:
-            return f"clash of one link with the dates: {self.links[0]}"
-        return f"clash of {counted(len(self.links), 'link')}, which cannot all be true: {'; '.join(map(str, self.links))}"
 
     def _repr_html_(self) -> str:
         from .notebooks import html_of_clash
@@ -251,32 +281,34 @@ class Clash(Result):
         return tuple(lines.ranks(self.intervals) for _ in self.links)
 
 
-@dataclass(frozen=True)
+@dataclass(frozen=True, repr=False)
 class Proof(Result):
     """A relation holds in every timeline that fits: a walk for each of its orders."""
 
     relation: Relation
     walks: tuple[tuple[Step, ...], ...]
-    evidence: bytes = field(repr=False)
+    evidence: bytes
+    content: bytes = field(default=b"", compare=False, metadata=NOT_SHOWN)
 
 
-@dataclass(frozen=True)
-class Counterexample(Result):
+@dataclass(frozen=True, repr=False)
+class Counterexample(Negative):
     """A relation need not hold: a timeline that fits, in which it is false."""
 
     relation: Relation
     ranks: Mapping[str, Ranks]
-    evidence: bytes = field(repr=False)
+    evidence: bytes
+    content: bytes = field(default=b"", compare=False, metadata=NOT_SHOWN)
 
 
-@dataclass(frozen=True)
+@dataclass(frozen=True, repr=False)
 class Possible(Result):
     """The base relations of Allen that are possible between two intervals, each with a timeline that fits and has it."""
 
     timelines: Mapping[str, Mapping[str, Ranks]]
 
 
-@dataclass(frozen=True)
+@dataclass(frozen=True, repr=False)
 class Reduced(Result):
     """The links that stay where those that follow from others are left out, and how many links there are in all."""
 
@@ -284,14 +316,14 @@ class Reduced(Result):
     total: int
 
 
-@dataclass(frozen=True)
+@dataclass(frozen=True, repr=False)
 class Consistent(Result):
     """Relations without the least confident one of each clash: those that are kept, in the order in which they were given, those that were
     dropped, from the most confident one on, and the document with the ones that are kept."""
 
     kept: tuple[Relation, ...]
     dropped: tuple[Relation, ...]
-    document: bytes = field(repr=False)
+    document: bytes
 
 
 @dataclass(frozen=True)
@@ -331,31 +363,29 @@ class Score(Result):
 
 
 @dataclass(frozen=True)
-class KeyClash(Result):
+class KeyClash(Negative):
     """No timeline fits the key."""
 
-    def __str__(self) -> str:
-        return "the links of the key cannot all be true"
 
-
-@dataclass(frozen=True)
+@dataclass(frozen=True, repr=False)
 class Placing(Result):
     """Seconds for the intervals of a document that meet its links, its dates and its durations; with the text for `confirm`."""
 
     seconds: Mapping[str, Seconds]
-    text: bytes = field(repr=False)
+    text: bytes
 
 
-@dataclass(frozen=True)
-class Cycle(Result):
+@dataclass(frozen=True, repr=False)
+class Cycle(Negative):
     """Constraints on seconds that cannot all be met; with the text for `confirm`."""
 
     steps: tuple[Step, ...]
-    text: bytes = field(repr=False)
+    text: bytes
+    content: bytes = field(default=b"", compare=False, metadata=NOT_SHOWN)
 
 
 @dataclass(frozen=True)
-class Claim(Result):
+class Claim(Part):
     """What a claim of evidence shows: of an entailment or a counterexample the relation, of a clash the numbers of its links."""
 
     kind: Literal["timeline", "entails", "counter", "clash"]
@@ -363,7 +393,7 @@ class Claim(Result):
     links: tuple[int, ...] = ()
 
 
-@dataclass(frozen=True)
+@dataclass(frozen=True, repr=False)
 class Verified(Result):
     """Evidence that is right, and what each of its claims shows."""
 
@@ -378,7 +408,7 @@ class Confirmed(Result):
 
 
 @dataclass(frozen=True)
-class Malformed(Result):
+class Malformed(Negative):
     """A text of evidence or of seconds is malformed: its first bad line, from 1."""
 
     file: Literal["evidence", "second", "seconds"]
@@ -386,7 +416,7 @@ class Malformed(Result):
 
 
 @dataclass(frozen=True)
-class Refused(Result):
+class Refused(Negative):
     """Evidence, a placing or a cycle is wrong: the first reason. Of evidence also the claim, from 0, and the part of it."""
 
     reason: str

@@ -8,8 +8,17 @@ from collections.abc import Iterable, Sequence
 COMMAND = r"#(?=#(?:\[|vso|teamcity))"
 """The first sign of what build servers take for a command in a log: `##[` and `##vso[` for GitHub and Azure, `##teamcity[` for TeamCity."""
 
+LONGEST = 40
+"""How many characters of the words of an interval are shown."""
+
 MOST_NAMED = 12
 """How many names a message lists at most."""
+
+
+def cut_short(text: str, longest: int = LONGEST) -> str:
+    """A text on one line, cut where it is long."""
+    line = " ".join(text.split())
+    return line if len(line) <= longest else line[: longest - 1] + "\u2026"
 
 
 def counted(number: int, noun: str) -> str:

@@ -6,11 +6,12 @@ import html
 import re
 from collections.abc import Collection, Iterable, Mapping, Sequence
 from itertools import count
-from typing import Any
+from typing import Any, Protocol
 
 from . import reading
 from .asking import Answerer, File, content
 from .documents import Time, TLink
+from .helping import complete
 from .misuse import unknown_interval, unknown_relation
 from .questions import check, spans
 from .results import Accepted, Fault, Link, Relation, TooLong, Unit
@@ -18,8 +19,19 @@ from .statuses import DOCUMENT_LIMIT, IDENTIFIER_LIMIT, RELATIONS
 
 __all__ = ["Linkable", "document_of", "with_links"]
 
-Linkable = tuple[str, str, str] | Relation | Link | TLink
-"""What says a relation between two intervals: a triple, or a relation or link as it was answered."""
+Linkable = tuple[str, str, str] | list[str] | Relation | Link | TLink | Mapping[str, object]
+"""What says a relation between two intervals: a triple, a relation or link as it was answered, or a row by the names of its columns."""
+
+
+class Frame(Protocol):
+    """Rows as pandas has them."""
+
+    def itertuples(self, index: bool) -> Iterable[Any]:
+        """The rows as tuples."""
+
+
+Linkables = Iterable[Linkable] | Frame
+"""Relations in their order, which are read once."""
 
 NAME = re.compile(rf"[A-Za-z0-9_.-]{{1,{IDENTIFIER_LIMIT}}}")
 ENDS = {"eventInstanceID": "timeID", "relatedToEventInstance": "relatedToTime"}
@@ -34,11 +46,10 @@ TIME = re.compile(r"(?:[\dX-]+T|T[\dX]).*", re.DOTALL)
 """How the values of durations, of times that come again each year, and of times of the day begin."""
 
 
-def with_links(document: File, relations: Iterable[Linkable], by: Answerer | None = None) -> bytes | Fault | TooLong:
+def with_links(document: File, relations: Linkables, by: Answerer | None = None) -> bytes | Fault | TooLong:
     """A document with other links: without its own TLINK tags, and with one for each relation at the end of its root.
 
-    Relations are triples of names, or links that `check` or `read` answered. A link keeps its `lid` where no other tag has it. The names
-    are those of the intervals of the document; another one is an `UnknownName`, and so is a relation that TLINK does not have.
+    A link keeps its `lid` if no other tag has it. The names are those of the intervals of the document.
     """
     given = content(document, DOCUMENT_LIMIT)
     accepted, units = check(given, by), spans(given, by)
@@ -46,7 +57,7 @@ def with_links(document: File, relations: Iterable[Linkable], by: Answerer | Non
         return accepted
     assert isinstance(units, list)
     ends = ends_in(given, accepted, units)
-    return with_tags(given, units, [ends.tag(one) for one in relations])
+    return with_tags(given, units, [ends.tag(one) for one in links_in(relations)])
 
 
 def with_tags(document: bytes, units: Sequence[Unit], tags: Iterable[str]) -> bytes:
@@ -89,7 +100,7 @@ def ends_in(document: bytes, accepted: Accepted, units: Iterable[Unit]) -> Ends:
     return Ends(accepted.intervals, reading.times_of(document), reading.events_of(document), identifiers_of(document, units))
 
 
-def document_of(relations: Iterable[Linkable], times: Mapping[str, str] | Sequence[Time] | None = None) -> bytes:
+def document_of(relations: Linkables, times: Mapping[str, str] | Sequence[Time] | None = None) -> bytes:
     """A document that says these relations and nothing else. A name for which `times` has a value is a time, and all others are events.
 
     Times are values by their names, or those of a document as `read` answered them, which keep their type, modifier and value. A value
@@ -98,8 +109,8 @@ def document_of(relations: Iterable[Linkable], times: Mapping[str, str] | Sequen
 
     Names are of the form of identifiers: letters, digits, `_`, `-` and `.`, 64 at most; a `ValueError` tells one that is not.
     """
-    triples, tags = [relation_of(one) for one in relations], times_of(times)
-    names = dict.fromkeys([*tags, *(name for first, _, second in triples for name in (first, second))])
+    links, tags = [one._replace(lid=None) for one in links_in(relations)], times_of(times)
+    names = dict.fromkeys([*tags, *(name for one in links for name in (one.first, one.second))])
     bad = next((name for name in names if not NAME.fullmatch(name)), None)
     if bad is not None:
         raise ValueError(f"{bad!r} is not of the form of an identifier: letters, digits, `_`, `-` and `.`, {IDENTIFIER_LIMIT} at most")
@@ -107,7 +118,7 @@ def document_of(relations: Iterable[Linkable], times: Mapping[str, str] | Sequen
     lines = [f'<EVENT eid="{event}" class="OCCURRENCE"></EVENT>']
     lines += [tags.get(name, f'<MAKEINSTANCE eiid="{name}" eventID="{event}"/>') for name in names]
     ends = Ends(list(names), tags)
-    lines += [ends.tag(one) for one in triples]
+    lines += [ends.tag(one) for one in links]
     return "\n".join(["<TimeML>", *lines, "</TimeML>", ""]).encode()
 
 
@@ -115,13 +126,18 @@ def times_of(times: Mapping[str, str] | Sequence[Time] | None) -> dict[str, str]
     """The tags of times by their names."""
     if times is None:
         return {}
-    if not isinstance(times, Mapping):
-        return {str(one.id): timex(str(one.id), {name: one.attributes[name] for name in KEPT if name in one.attributes}) for one in times}
-    return {name: timex(name, {"type": type_of(value), "value": value}) for name, value in times.items()}
+    if isinstance(times, Mapping):
+        return {name: timex(name, {"type": type_of(name, value), "value": value}) for name, value in times.items()}
+    given: list[Any] = [*times] if isinstance(times, Iterable) else [times]
+    if not all(isinstance(one, Time) for one in given):
+        raise TypeError(f"times are values by their names, or Times that tml.read answered, and not {times!r}")
+    return {str(one.id): timex(str(one.id), {name: one.attributes[name] for name in KEPT if name in one.attributes}) for one in given}
 
 
-def type_of(value: str) -> str:
+def type_of(name: str, value: str) -> str:
     """The type of a time with this value, as far as that can be seen."""
+    if not isinstance(value, str):
+        raise TypeError(f"the value of the time {name!r} is a text, as 1998-01-08, and not {value!r}")
     if DURATION.match(value) and not value.startswith("PAST"):
         return "DURATION"
     return "SET" if SET.match(value) else "TIME" if TIME.fullmatch(value) else "DATE"
@@ -133,14 +149,23 @@ def timex(name: str, attributes: Mapping[str, str]) -> str:
     return f'<TIMEX3 tid="{name}"{written}></TIMEX3>'
 
 
-def relation_of(one: Linkable) -> Relation:
-    """The relation that a triple or a link says; a `TypeError` where it is none."""
-    if isinstance(one, (Link, TLink)):
-        return one.says()
-    given: Any = one
-    if not isinstance(given, (tuple, list)) or len(given) != 3 or not all(isinstance(word, str) for word in given):
-        raise TypeError(f"a relation is a triple of a name, a relation and a name, or a link, and not {one!r}")
-    return Relation(*given)
+def links_in(relations: Linkables) -> list[Link]:
+    """Relations as links, in their order."""
+    rows = relations.itertuples(index=False) if hasattr(relations, "itertuples") else relations
+    return [link_of(number, row) for number, row in enumerate(rows)]
+
+
+def link_of(number: int, row: Any) -> Link:
+    """What a row says: by its names, or a triple by its places; a `TypeError` where it says no relation."""
+    *words, lid = (row.get(name) if hasattr(row, "get") else getattr(row, name, None) for name in (*Relation._fields, "lid"))
+    is_array = hasattr(row, "tolist") and not isinstance(row, str)
+    if (is_array or isinstance(row, (tuple, list))) and all(word is None for word in words):
+        words = row.tolist() if is_array else list(row)
+    if len(words) != 3 or not all(isinstance(word, str) for word in words):
+        names = ", ".join(Relation._fields)
+        raise TypeError(f"a relation is a triple of a name, a relation and a name, or a link, or a row with {names}, and not {row!r}")
+    first, relation, second = map(str, words)
+    return Link(number, first, relation, second, lid if isinstance(lid, str) else None)
 
 
 class Ends:
@@ -155,24 +180,25 @@ class Ends:
     ) -> None:
         self.names, self.known, self.times, self.events, self.taken = names, set(names), times, events or {}, taken or set()
 
-    def tag(self, one: Linkable) -> str:
+    def tag(self, one: Link) -> str:
         """The tag of a link."""
-        first, between, second = relation_of(one)
-        for name in (first, second):
+        for name in (one.first, one.second):
             if name not in self.known:
                 raise unknown_interval(name, self.names, self.events.get(name, ()))
-        if between not in RELATIONS:
-            raise unknown_relation(between)
+        if one.relation not in RELATIONS:
+            raise unknown_relation(one.relation)
         ends = [
             f'{time if name in self.times else instance}="{name}"'
-            for (instance, time), name in zip(ENDS.items(), (first, second), strict=True)
+            for (instance, time), name in zip(ENDS.items(), (one.first, one.second), strict=True)
         ]
-        return f'<TLINK {self.identifier(one)}{ends[0]} {ends[1]} relType="{between}"/>'
+        return f'<TLINK {self.identifier(one.lid)}{ends[0]} {ends[1]} relType="{one.relation}"/>'
 
-    def identifier(self, one: Linkable) -> str:
+    def identifier(self, lid: str | None) -> str:
         """The lid of a link as it is written, where it has one that no other tag has."""
-        lid = one.lid if isinstance(one, (Link, TLink)) else None
         if lid is None or lid in self.taken or not NAME.fullmatch(lid):
             return ""
         self.taken.add(lid)
         return f'lid="{lid}" '
+
+
+complete(globals())

@@ -191,6 +191,12 @@ class Source:
             for _, one in self.valued("TLINK")
         ]
 
+    @cached_property
+    def intervals(self) -> list[str]:
+        """The names of the intervals by their numbers: they are the instances and times in the order of their tags."""
+        tags = sorted(self.tags("MAKEINSTANCE") + self.tags("TIMEX3"), key=lambda tag: tag.start)
+        return [self.value(tag, IDENTIFIERS[tag.name]) for tag in tags]
+
     def tags(self, kind: str) -> list[Unit]:
         """The start and empty tags of a kind."""
         return self.by_kind.get(kind, [])

@@ -71,7 +71,8 @@ def links_that_do_not_follow(program: Program, side: Side, other: Side, wanted: 
     for link in apart:
         possible: tuple[str, ...] = ()
         if not missing[link.number]:
-            matrix = matrix or matrix_of(program, other.wording.document, other.wording.intervals)
+            if matrix is None:
+                matrix = matrix_of(program, other.wording.document, other.wording.intervals)
             possible = matrix.between(numbers[link.left], numbers[link.right])
         place, words = side.written.link(link.number).place, side.wording.in_words(link)
         found.append(Disagreement(side.path, place, other.path, link, words, missing[link.number], possible))

@@ -9,7 +9,7 @@ from typing import Protocol
 
 from tml.results import Score
 
-from ..check.formats import Array, located, place_object, printable
+from ..check.formats import Array, Lines, located, place_object, printable
 from ..files.finding import counted, shown
 from ..matrix.formats import harmless, in_lines
 from .agree import REASONS, NotCounted, PairReport
@@ -75,7 +75,8 @@ class Format(Protocol):
     """Whether the output is for programs, so that a summary goes to standard error."""
 
     def start(self) -> str:
-        """What comes before all pairs."""
+        """What comes before all pairs: mostly nothing."""
+        return ""
 
     def pair(self, report: PairReport, scores: Score) -> str:
         """What is printed of a pair that is counted."""
@@ -87,46 +88,35 @@ class Format(Protocol):
         """What comes after all pairs."""
 
 
-class Text:
+class Text(Format):
     """A line for each pair, below it one for each link that does not follow, and last the sums."""
 
     summary_apart = False
 
-    def start(self) -> str:
-        """What comes before all pairs."""
-        return ""
-
     def pair(self, report: PairReport, scores: Score) -> str:
-        """What is printed of a pair that is counted."""
         lines = [f"{shown(report.name)}: {in_line(scores)}"]
         lines += [f"{located(one.path, one.place)}: {shown(one.said())}" for one in report.disagreements]
         return report.readings + "".join(line + "\n" for line in lines)
 
     def not_counted(self, one: NotCounted) -> str:
-        """What is printed of a file that is not counted."""
         return f"{shown(one.path)}: skipped: {shown(one.text)}\n"
 
     def sums(self, corpus: Corpus) -> str:
-        """What comes after all pairs."""
         precision, recall, f1 = (mean(corpus.macro(measure)) for measure in MEASURES)
         return f"micro: {in_line(corpus.micro)}\nmacro: precision {precision}, recall {recall}, F1 {f1}\n"
 
 
-class Objects:
+class Objects(Format):
     """One object for each pair and each file that is not counted, and last one with the sums: on lines of their own, or as one array."""
 
     summary_apart = True
 
-    def __init__(self, array: Array | None = None) -> None:
-        self.array = array
+    def __init__(self, objects: Lines) -> None:
+        self.objects = objects
 
     def entry(self, entry: dict[str, object]) -> str:
         """What is printed of one object."""
-        line = printable(entry)
-        return line if self.array is None else self.array.element(line)
-
-    def start(self) -> str:
-        return ""
+        return self.objects.element(printable(entry))
 
     def pair(self, report: PairReport, scores: Score) -> str:
         pair = {"name": report.name, "path": report.path, "key": report.key_path, "readTouching": bool(report.readings)}
@@ -139,8 +129,7 @@ class Objects:
     def sums(self, corpus: Corpus) -> str:
         means = {measure: corpus.macro(measure) for measure in MEASURES}
         macro = {measure: {"value": one.value, "pairs": one.pairs} for measure, one in means.items()}
-        last = self.entry({"pairs": corpus.pairs, "micro": scores_object(corpus.micro), "macro": macro})
-        return last if self.array is None else last + self.array.end()
+        return self.entry({"pairs": corpus.pairs, "micro": scores_object(corpus.micro), "macro": macro}) + self.objects.end()
 
 
 def scores_object(scores: Score) -> dict[str, object]:
@@ -162,7 +151,7 @@ def disagreement_object(one: Disagreement) -> dict[str, object]:
     return {"path": one.path, **place_object(one.place), **link, "words": one.words, **there}
 
 
-class CommaSeparated:
+class CommaSeparated(Format):
     """A row for each pair and each file that is not counted, after one with the names of the columns, and last two with the sums."""
 
     summary_apart = True
@@ -204,5 +193,5 @@ def printed(form: Format, report: PairReport) -> str:
 
 def make_format(name: str) -> Format:
     """The form of a name."""
-    makers: Mapping[str, Callable[[], Format]] = {"text": Text, "json": lambda: Objects(Array()), "jsonl": Objects, "csv": CommaSeparated}
-    return makers[name]()
+    json: Mapping[str, Callable[[], Lines]] = {"json": Array, "jsonl": Lines}
+    return Objects(json[name]()) if name in json else Text() if name == "text" else CommaSeparated()

@@ -156,53 +156,48 @@ class Text:
         return ""
 
 
-class JsonLines:
-    """One object for each file, on a line of its own. Bytes of names that are not UTF-8 are lone surrogates."""
+class Lines:
+    """Objects of JSON on lines of their own."""
 
-    summary_apart = True
+    def element(self, line: str) -> str:
+        """What is printed of one more object."""
+        return line
 
-    def file(self, judgement: Judgement) -> str:
-        return printable(judgement_object(judgement))
-
-    def plain(self, path: str) -> str:
-        return self.file(Judgement(path))
-
-    def end(self, summary: Summary) -> str:
+    def end(self) -> str:
+        """What comes after all objects."""
         return ""
 
 
-class Array:
+class Array(Lines):
     """The objects of lines of JSON as the elements of one array."""
 
     def __init__(self) -> None:
         self.is_begun = False
 
     def element(self, line: str) -> str:
-        """What is printed of one more element."""
         begin, self.is_begun = (",\n" if self.is_begun else "[\n"), True
         return begin + line.rstrip("\n")
 
     def end(self) -> str:
-        """What comes after all elements."""
         return "\n]\n" if self.is_begun else "[]\n"
 
 
-class Json:
-    """One array with an object for each file."""
+class Objects:
+    """One object for each file: on lines of their own, or in one array. Bytes of names that are not UTF-8 are lone surrogates."""
 
     summary_apart = True
 
-    def __init__(self) -> None:
-        self.array = Array()
+    def __init__(self, objects: Lines) -> None:
+        self.objects = objects
 
     def file(self, judgement: Judgement) -> str:
-        return self.array.element(printable(judgement_object(judgement)))
+        return self.objects.element(printable(judgement_object(judgement)))
 
     def plain(self, path: str) -> str:
         return self.file(Judgement(path))
 
     def end(self, summary: Summary) -> str:
-        return self.array.end()
+        return self.objects.end()
 
 
 def printable(entry: dict[str, object]) -> str:
@@ -316,9 +311,9 @@ def make_format(name: str, with_source: bool, strict: bool = False) -> Form[Judg
         case "text":
             return Text(with_source)
         case "json":
-            return Json()
+            return Objects(Array())
         case "jsonl":
-            return JsonLines()
+            return Objects(Lines())
         case "github":
             return GitHub()
         case _:

@@ -9,6 +9,7 @@ from typing import NamedTuple
 
 from tml.lines import Step
 from tml.replies import kind_of
+from tml.skeletons import renumbered
 
 from ..asking.program import ACCEPTED, CannotRun, Program, Reply
 from ..files.replacing import replace_file
@@ -24,10 +25,7 @@ class Clash(NamedTuple):
     def renumbered(self, numbers: Sequence[int]) -> Clash:
         """The clash of a document that has more links: link K of this one is its link `numbers[K]`."""
         walk = tuple(Step(step.kind, numbers[step.first], step.second) if step.kind == "via" else step for step in self.walk)
-        lines = re.sub(
-            rb"^(cite|via) (\d+)", lambda found: b"%s %d" % (found[1], numbers[int(found[2])]), self.evidence, flags=re.MULTILINE
-        )
-        return Clash(tuple(numbers[link] for link in self.links), walk, lines)
+        return Clash(tuple(numbers[link] for link in self.links), walk, renumbered(self.evidence, numbers))
 
 
 def read_clash(reply: Reply) -> Clash:
@@ -46,20 +44,22 @@ def is_timeline(reply: Reply) -> bool:
 
 def verify_clash(program: Program, document: bytes, clash: Clash, kept: str | None = None) -> None:
     """Has `tml verify` judge a clash. Its evidence is kept if a name of a file is given for it."""
-    judged = program.ask(["verify", "-"], document, clash.evidence)
-    if judged.status != ACCEPTED or judged.text != b"verified clash %s\n" % b" ".join(b"%d" % link for link in clash.links):
-        said = judged.text.decode("utf-8", "replace").strip()
-        raise CannotRun(f"tml verify refused the evidence of tml solve: {said}")
+    verify(program, document, clash.evidence, b"clash %s" % b" ".join(b"%d" % link for link in clash.links), "refused the evidence")
     if kept is not None:
         replace_file(kept, clash.evidence, top=os.path.dirname(kept))
 
 
 def verify_timeline(program: Program, document: bytes, timeline: Reply) -> None:
     """Has `tml verify` judge a timeline that `tml solve` printed."""
-    judged = program.ask(["verify", "-"], document, timeline.text)
-    if judged.status != ACCEPTED or judged.text != b"verified timeline\n":
+    verify(program, document, timeline.text, b"timeline", "did not accept the timeline")
+
+
+def verify(program: Program, document: bytes, evidence: bytes, shown: bytes, otherwise: str) -> None:
+    """Has `tml verify` judge evidence, which is to show this; otherwise it did what is said."""
+    judged = program.ask(["verify", "-"], document, evidence)
+    if judged.status != ACCEPTED or judged.text != b"verified %s\n" % shown:
         said = judged.text.decode("utf-8", "replace").strip()
-        raise CannotRun(f"tml verify did not accept the timeline of tml solve: {said}")
+        raise CannotRun(f"tml verify {otherwise} of tml solve: {said}")
 
 
 def evidence_name(path: str) -> str:

@@ -14,13 +14,25 @@ from .report import TOUCHING, ClashReport, ClashSummary, PlacedChange, PlacedCla
 if TYPE_CHECKING:
     from tml.places import Place
 
-    from ..check.form import Form
+    from ..check import form
 
 
-class Text:
-    """Lines for each link of a clash and each note, with the line of the document and the relation marked."""
+class Form:
+    """A form that prints nothing of a file that some timeline fits and of which there is nothing to say, and nothing after all files."""
 
     summary_apart = False
+
+    def plain(self, path: str) -> str:
+        """What is printed of such a file."""
+        return ""
+
+    def end(self, summary: ClashSummary) -> str:
+        """What comes after all files."""
+        return ""
+
+
+class Text(Form):
+    """Lines for each link of a clash and each note, with the line of the document and the relation marked."""
 
     def __init__(self, with_source: bool, quiet: bool = False) -> None:
         self.judgements, self.quiet = formats.Text(with_source), quiet
@@ -28,10 +40,6 @@ class Text:
     def file(self, report: ClashReport) -> str:
         """What is printed of one file."""
         return self.judgements.file(report.judgement) + "".join(line + "\n" for line in self.lines(report))
-
-    def plain(self, path: str) -> str:
-        """What is printed of a file that some timeline fits, and of which there is nothing to say."""
-        return ""
 
     def lines(self, report: ClashReport) -> list[str]:
         """The lines of the clashes of one file."""
@@ -47,10 +55,6 @@ class Text:
             lines += repair_lines(path, report)
         lines += [f"{path}: evidence in {shown(clash.evidence)}" for clash in report.clashes if clash.evidence is not None]
         return lines
-
-    def end(self, summary: ClashSummary) -> str:
-        """What comes after all files."""
-        return ""
 
 
 def located(path: str, place: Place, text: str) -> str:
@@ -101,22 +105,22 @@ def repair_lines(path: str, report: ClashReport) -> list[str]:
     return lines
 
 
-class JsonLines:
-    """One object for each file, on a line of its own. Bytes of names that are not UTF-8 are lone surrogates."""
+class Objects(Form):
+    """One object for each file: on lines of their own, or in one array. Bytes of names that are not UTF-8 are lone surrogates."""
 
     summary_apart = True
 
-    def __init__(self, checked: bool) -> None:
-        self.checked = checked
+    def __init__(self, checked: bool, objects: formats.Lines) -> None:
+        self.checked, self.objects = checked, objects
 
     def file(self, report: ClashReport) -> str:
-        return formats.printable(report_object(report, self.checked))
+        return self.objects.element(formats.printable(report_object(report, self.checked)))
 
     def plain(self, path: str) -> str:
         return self.file(ClashReport(Judgement(path)))
 
     def end(self, summary: ClashSummary) -> str:
-        return ""
+        return self.objects.end()
 
 
 def report_object(report: ClashReport, checked: bool) -> dict[str, object]:
@@ -129,24 +133,6 @@ def report_object(report: ClashReport, checked: bool) -> dict[str, object]:
     if report.repair is not None:
         printed["repair"] = repair_object(report.repair)
     return printed
-
-
-class Json:
-    """One array with an object for each file."""
-
-    summary_apart = True
-
-    def __init__(self, checked: bool) -> None:
-        self.checked, self.array = checked, formats.Array()
-
-    def file(self, report: ClashReport) -> str:
-        return self.array.element(formats.printable(report_object(report, self.checked)))
-
-    def plain(self, path: str) -> str:
-        return self.file(ClashReport(Judgement(path)))
-
-    def end(self, summary: ClashSummary) -> str:
-        return self.array.end()
 
 
 def link_object(link: PlacedLink) -> dict[str, object]:
@@ -193,7 +179,7 @@ def first_line(report: ClashReport) -> str:
     return located(path, report.clashes[0].links[0].place(), headline(report.clashes[0]))
 
 
-class JUnit:
+class JUnit(Form):
     """One test case for each file."""
 
     summary_apart = True
@@ -219,11 +205,9 @@ class JUnit:
         return self.suite.text()
 
 
-class GitHub:
+class GitHub(Form):
     """A workflow command of GitHub for each clash, which GitHub shows beside the line of its first link, and for each link of dates that
     touch."""
-
-    summary_apart = False
 
     def file(self, report: ClashReport) -> str:
         path = report.judgement.path
@@ -238,12 +222,6 @@ class GitHub:
         if not report.read_touching:
             lines += [command(path, change.link.place(), TOUCHING, shown(change.cure())) for change in report.touching]
         return "".join(lines)
-
-    def plain(self, path: str) -> str:
-        return ""
-
-    def end(self, summary: ClashSummary) -> str:
-        return ""
 
 
 def command(path: str, place: Place, title: str, text: str) -> str:
@@ -270,12 +248,12 @@ def repair_message(report: ClashReport) -> list[str]:
     return [shown(report.repair.text()), *(beside(link.place(), link.text) for links in report.repair.choices for link in links)]
 
 
-def make_format(name: str, with_source: bool, quiet: bool, checked: bool, strict: bool) -> Form[ClashReport, ClashSummary]:
+def make_format(name: str, with_source: bool, quiet: bool, checked: bool, strict: bool) -> form.Form[ClashReport, ClashSummary]:
     """The format of a name, for `check --clashes` or for `clashes`."""
-    makers: dict[str, Callable[[], Form[ClashReport, ClashSummary]]] = {
+    makers: dict[str, Callable[[], form.Form[ClashReport, ClashSummary]]] = {
         "text": lambda: Text(with_source, quiet),
-        "json": lambda: Json(checked),
-        "jsonl": lambda: JsonLines(checked),
+        "json": lambda: Objects(checked, formats.Array()),
+        "jsonl": lambda: Objects(checked, formats.Lines()),
         "junit": lambda: JUnit("tml check" if checked else "tml clashes", with_source, strict),
         "github": GitHub,
     }

@@ -34,6 +34,7 @@ from tml.running import Expected
 from tml.statuses import TmlStatus
 from tml.tags.cutting import units_of_whole
 from tml.tags.edits import Edit, applied, applied_in_order, with_spaces_before, with_value
+from tml.tags.profile import IDENTIFIERS
 from tml.tags.units import Attribute, Unit, Units
 
 from ..asking.program import ACCEPTED, DOCUMENT_LIMIT, FAULT, MEANINGS, CannotRun, Program, find_program
@@ -46,23 +47,10 @@ from ..files.standard_input import STANDARD_INPUT
 from .tables import BadTable, Word, rows
 
 LINK_TAGS = ("TLINK", "ALINK", "SLINK")
-IDENTIFIERS = {"EVENT": "eid", "MAKEINSTANCE": "eiid", "TIMEX3": "tid", "SIGNAL": "sid", "TLINK": "lid", "ALINK": "lid", "SLINK": "lid"}
-REFERENCES = ("eventID", "signalID", "anchorTimeID", "beginPoint", "endPoint", "timeID", "relatedToTime", "eventInstanceID")
-OTHER_REFERENCES = (
-    "relatedToEventInstance",
-    "relatedToEvent",
-    "relatedToEventID",
-    "subordinatedEventInstance",
-    "subordinatedEvent",
-    "subordinatedEventID",
-)
-TO_INSTANCES = {
-    "eventID": "eventInstanceID",
-    "relatedToEvent": "relatedToEventInstance",
-    "relatedToEventID": "relatedToEventInstance",
-    "subordinatedEvent": "subordinatedEventInstance",
-    "subordinatedEventID": "subordinatedEventInstance",
+TO_INSTANCES = {"eventID": "eventInstanceID"} | {
+    f"{name}{end}": f"{name}Instance" for name in ("relatedToEvent", "subordinatedEvent") for end in ("", "ID")
 }
+REFERENCES = ("signalID", "anchorTimeID", "beginPoint", "endPoint", "timeID", "relatedToTime", *TO_INSTANCES, *TO_INSTANCES.values())
 OF_INSTANCES = ("tense", "aspect", "pos", "polarity", "modality", "cardinality", "signalID")
 OVERLAPS = ("OVERLAP", "BEFORE-OR-OVERLAP", "OVERLAP-OR-AFTER")
 IDENTIFIER = re.compile(r"[A-Za-z0-9_.-]{1,64}")
@@ -188,7 +176,7 @@ def from_iso(document: Document) -> None:
         for attribute in unit.attributes:
             if attribute.name == "xml:id":
                 edits.append(Edit(attribute.start, attribute.start + len("xml:id"), IDENTIFIERS[unit.name].encode()))
-            elif attribute.name in REFERENCES + OTHER_REFERENCES and attribute.value(document.text).startswith(b"#"):
+            elif attribute.name in REFERENCES and attribute.value(document.text).startswith(b"#"):
                 edits.append(with_value(attribute, document.text, attribute.value(document.text)[1:]))
     document.change(edits)
 

@@ -9,7 +9,6 @@ from functools import cached_property
 from tml.places import Place
 from tml.statuses import MANY_BYTES
 from tml.tags.cutting import units_of_whole
-from tml.tags.profile import IDENTIFIERS
 from tml.tags.source import Source, attribute_of
 from tml.tags.units import Unit, Units
 
@@ -56,11 +55,10 @@ class Wording:
         """What the calendar says of each time, by its name."""
         return dates_of(self.program, self.source)
 
-    @cached_property
+    @property
     def intervals(self) -> list[str]:
-        """The names of the intervals by their numbers: they are the instances and times in the order of their tags."""
-        tags = sorted(self.source.tags("MAKEINSTANCE") + self.source.tags("TIMEX3"), key=lambda tag: tag.start)
-        return [self.source.value(tag, IDENTIFIERS[tag.name]) for tag in tags]
+        """The names of the intervals by their numbers."""
+        return self.source.intervals
 
     def link(self, number: int) -> Link:
         """The link of a number: links have the numbers of their tags, and at each end one attribute with a value."""
