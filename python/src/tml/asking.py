@@ -80,6 +80,13 @@ def content(file: File, limit: int) -> bytes:
     return file if isinstance(file, bytes) else bytes(file)
 
 
+def contents(files: Sequence[File], limits: Sequence[int]) -> tuple[bytes, ...]:
+    """The bytes of the files of a question. One that is given twice is read once, since a pipe has nothing for the second time."""
+    is_twice = len(files) == 2 and (files[0], limits[0]) == (files[1], limits[1])
+    read = tuple(content(file, limit) for file, limit in zip(files[: 1 if is_twice else 2], limits, strict=False))
+    return read * 2 if is_twice else read
+
+
 def content_at(path: str | os.PathLike[str], limit: int) -> bytes:
     """The bytes of the file at a path."""
     try:
@@ -141,7 +148,7 @@ def answer_to(by: Answerer | None, command: str, *files: File, arguments: Sequen
     if by is not None and not callable(getattr(by, "answer", None)):
         raise not_an_answerer(by)
     answerer = default_answerer() if by is None else by
-    given = tuple(content(file, limit) for file, limit in zip(files, LIMITS.get(command, (DOCUMENT_LIMIT,)), strict=False))
+    given = contents(files, LIMITS.get(command, (DOCUMENT_LIMIT,)))
     number, text = answerer.answer(command, given, arguments)
     status = TmlStatus(number)
     if status == TmlStatus.NO_MEMORY:

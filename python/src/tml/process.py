@@ -35,10 +35,10 @@ class Process:
 
 
 @contextmanager
-def open_file(file: bytes | IO[bytes] | None, called: str) -> Iterator[IO[bytes] | None]:
-    """The second file of a question, open: one in memory is put into a file without a name."""
-    if not isinstance(file, bytes):
-        yield file
+def open_file(file: bytes | None, called: str) -> Iterator[IO[bytes] | None]:
+    """The second file of a question, where there is one: open, without a name."""
+    if file is None:
+        yield None
         return
     import tempfile
 

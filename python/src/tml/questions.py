@@ -114,7 +114,7 @@ def dates(document: File, by: Answerer | None = None) -> dict[str, Date] | Fault
 def solve(document: File, by: Answerer | None = None) -> Timeline | Clash | Fault | TooLong:
     """The least timeline that fits a document, or a minimal clash where none does."""
     answer = answer_to(by, "solve", document)
-    return answer.problem() or clash_of(answer) or read_timeline(answer.text, accepted_of(answer))
+    return answer.problem() or clash_of(answer) or read_timeline(answer.text, accepted_of(answer).intervals)
 
 
 def clash(document: File, by: Answerer | None = None) -> Clash | Fault | TooLong | None:
@@ -133,10 +133,11 @@ def clashes(document: File, most: int | None = None, by: Answerer | None = None)
     problem = answer.problem()
     if problem is not None:
         return problem
-    first, found = clash_of(answer), list[Clash]()
-    if first is None:
+    found, left_out = list[Clash](), set[int]()
+    if answer.status != TmlStatus.CLASH:
         return found
-    accepted, skeleton, left_out = accepted_of(answer), Skeleton(answer.files[0]), set[int]()
+    accepted, skeleton = accepted_of(answer), Skeleton(answer.files[0])
+    first: Clash | None = read_clash(answer.text, accepted, skeleton.content)
     while first is not None:
         found.append(first)
         left_out.update(link.number for link in first.links)
@@ -151,12 +152,15 @@ def clashes(document: File, most: int | None = None, by: Answerer | None = None)
 
 def timeline(document: File, by: Answerer | None = None) -> Timeline | Clash | Fault | TooLong:
     """The least timeline that fits a document, with a row of words and dates for each interval; or a minimal clash where none does."""
-    found = solve(document, by)
-    if not isinstance(found, Timeline):
-        return found
-    model, said = read(document, by), dates(document, by)
+    answer = answer_to(by, "solve", document)
+    problem = answer.problem() or clash_of(answer)
+    if problem is not None:
+        return problem
+    [content] = answer.files
+    model, said = read(document if isinstance(document, Document) else content, answer.by), dates(content, answer.by)
     assert isinstance(model, Document)
     assert isinstance(said, dict)
+    found = read_timeline(answer.text, tuple(model.intervals))
     rows = (
         Row(name, one.text or one.attributes.get("value", ""), "time" if name in said else "event", *found.ranks[name], said.get(name))
         for name, one in model.intervals.items()

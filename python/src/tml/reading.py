@@ -136,9 +136,9 @@ def read_relations(text: bytes) -> list[Relation]:
     return [Relation(first, relation, second) for first, relation, second in lines_of(text)]
 
 
-def read_timeline(text: bytes, of: Accepted) -> Timeline:
-    """A timeline that was printed as evidence."""
-    return Timeline(Evidence(text).ranks(of.intervals), text)
+def read_timeline(text: bytes, names: Sequence[str]) -> Timeline:
+    """A timeline of intervals with these names, as it was printed as evidence."""
+    return Timeline(Evidence(text).ranks(names), text)
 
 
 def cited(text: bytes) -> list[int]:

@@ -171,11 +171,6 @@ def read_handle(handle: int, size: int) -> bytes:
     return b"".join(parts)
 
 
-def read_open(file: IO[bytes]) -> bytes:
-    """The bytes of an open file from its beginning, as many as `read_document` takes."""
-    return read_to(file, DOCUMENT_LIMIT + 1)
-
-
 def read_to(file: IO[bytes], most: int) -> bytes:
     """The bytes of an open file from its beginning, at most so many."""
     try:

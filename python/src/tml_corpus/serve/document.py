@@ -17,7 +17,7 @@ from tml.tags.profile import IDENTIFIERS, TABLE, Kind
 from tml.tags.source import Explanation, Source
 from tml.tags.units import Attribute, Unit, Units, end_of, open_tags, read_units
 
-from ..asking.program import ACCEPTED, CLASH, FAULT, CannotRun, File, Program, Reply, find_program
+from ..asking.program import ACCEPTED, CLASH, FAULT, CannotRun, Program, Reply, find_program
 from ..check.fix import Step, steps
 from ..check.further import further_faults
 from ..check.judgement import Judgement
@@ -50,7 +50,7 @@ class Asked(Program):
     chosen: str | None = None
     wanted: Callable[[], bool] = staticmethod(lambda: True)
 
-    def ask(self, words: list[str], document: File, other: File | None = None) -> Reply:
+    def ask(self, words: list[str], document: bytes, other: bytes | None = None) -> Reply:
         """Asks, where the answer is still wanted."""
         if not self.wanted():
             raise Overtaken
