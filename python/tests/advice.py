@@ -24,7 +24,7 @@ from reference import Outcome as Answered
 from reference import expected
 from slips import GROUPS, SLIPS, Slip
 from stories import Story
-from tml_corpus.asking.libraries import AtPath
+from tml.finding import AtPath
 from tml_corpus.asking.program import Program, Reply
 from tml_corpus.check import fix, judging
 from tml_corpus.check.fix import mended

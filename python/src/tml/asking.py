@@ -10,8 +10,7 @@ from pathlib import Path
 from typing import Any, Protocol
 
 from .documents import Document
-from .finding import LIBRARY_VARIABLE, PROGRAM_VARIABLE, find_program, library_for, present_program
-from .library import Library
+from .finding import find
 from .misuse import UnknownName, is_a_document, not_a_file, not_an_answerer, unknown_interval, unknown_relation
 from .process import Process
 from .reading import TOO_LONG, events_of, read_accepted, read_fault, read_malformed, read_refused
@@ -51,19 +50,12 @@ class Answerer(Protocol):
 
 @cache
 def default_answerer() -> Answerer:
-    """The library where there is one, else the program. The environment may name either, or both."""
-    named = os.environ.get(PROGRAM_VARIABLE)
-    library = None if named and LIBRARY_VARIABLE not in os.environ else library_for(present_program())
-    if library is not None:
-        try:
-            return Library(library)
-        except CannotRun:
-            if LIBRARY_VARIABLE in os.environ:
-                raise
-    program = present_program()
-    if not named and program is None:
+    """The library where there is one, else the program."""
+    found = find()
+    library = found.library.load() if found.library is not None else None
+    if library is None and found.program is None:
         raise CannotRun(NOTHING_FOUND)
-    return Process(find_program(named or program))
+    return library or Process(found.needed())
 
 
 def content(file: File, limit: int) -> bytes:

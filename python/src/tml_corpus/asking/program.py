@@ -6,7 +6,7 @@ import io
 from collections.abc import Callable, Iterator
 from typing import IO, TYPE_CHECKING, NamedTuple
 
-from tml.finding import find_program, present_program
+from tml.finding import Loadable
 from tml.running import CannotRun, run
 from tml.statuses import DOCUMENT_LIMIT, TmlStatus
 
@@ -15,11 +15,7 @@ from ..command_line.statuses import MEANINGS
 if TYPE_CHECKING:
     from tml.library import Library
 
-    from .libraries import Loadable
-
-__all__ = [
-    "ACCEPTED", "CLASH", "DOCUMENT_LIMIT", "FAULT", "MEANINGS", "CannotRun", "Program", "Reply", "find_program", "present_program",
-]  # fmt: skip
+__all__ = ["ACCEPTED", "CLASH", "DOCUMENT_LIMIT", "FAULT", "MEANINGS", "CannotRun", "Program", "Reply"]
 
 ACCEPTED, FAULT, CLASH = TmlStatus.DONE, TmlStatus.DOC_FAULT, TmlStatus.CLASH
 

@@ -8,10 +8,10 @@ from __future__ import annotations
 import re
 from collections.abc import Iterable
 
+from tml.finding import Loadable
 from tml.tags.edits import applied_in_order, blank
 from tml.tags.units import read_units
 
-from ..asking.libraries import Loadable
 from ..asking.program import ACCEPTED, Program, Reply
 
 
