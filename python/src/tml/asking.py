@@ -50,7 +50,7 @@ class Answerer(Protocol):
 
 @cache
 def default_answerer() -> Answerer:
-    """The library where there is one, else the program."""
+    """The library if there is one, else the program."""
     found = find()
     library = found.library.load() if found.library is not None else None
     if library is None and found.program is None:

@@ -25,7 +25,7 @@ class Loadable(Protocol):
     """A library that is not loaded yet. It goes to the workers of a cluster as it is."""
 
     def load(self) -> Library | None:
-        """It, loaded into this process; None where the program is asked in its place."""
+        """It, loaded into this process; None if the program is to be asked instead."""
 
 
 class AtPath(NamedTuple):
@@ -55,7 +55,7 @@ def library_at(path: str) -> Library:
 
 
 class Answering(NamedTuple):
-    """Who answers: a program if there is one, the library that is asked in its place if there is one, and whether the program was named."""
+    """Who answers: a program if there is one, the library that is asked instead if there is one, and whether the program was named."""
 
     program: str | None
     library: AtPath | None = None
@@ -89,7 +89,7 @@ def find(program: str | None = None, library: str | None = None, named_by: str =
 
 
 def on_path(name: str) -> str | None:
-    """Where the program lies that a name means: there, where it has a folder, else on PATH."""
+    """The path of the program that a name means: the name itself if it has a folder, else what PATH has."""
     if os.path.dirname(name):
         return os.path.abspath(name) if os.access(name, os.X_OK) and not os.path.isdir(name) else None
     import shutil

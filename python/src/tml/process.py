@@ -36,7 +36,7 @@ class Process:
 
 @contextmanager
 def open_file(file: bytes | None, called: str) -> Iterator[IO[bytes] | None]:
-    """The second file of a question, where there is one: open, without a name."""
+    """The second file of a question, if there is one: open, without a name."""
     if file is None:
         yield None
         return

@@ -64,6 +64,11 @@ class Starts:
 STARTS = Starts()
 
 
+def processors() -> int:
+    """The number of processors that this process may use."""
+    return len(os.sched_getaffinity(0)) if hasattr(os, "sched_getaffinity") else os.cpu_count() or 1
+
+
 class Expected(Exception):
     """What the code expects to go wrong. Its text says all that a user has to know."""
 

@@ -17,8 +17,9 @@ from importlib import import_module
 from typing import Any
 
 from tml.finding import Answering, find
+from tml.running import processors
 
-from ..asking.pool import Interruption, in_order, processors
+from ..asking.pool import Interruption, in_order
 from ..asking.program import CannotRun, Program
 from ..files.finding import PATTERNS, Found, find_files
 from ..files.standard_input import STANDARD_INPUT, StandardInput
