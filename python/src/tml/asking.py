@@ -73,8 +73,9 @@ def content(file: File, limit: int) -> bytes:
 
 
 def contents(files: Sequence[File], limits: Sequence[int]) -> tuple[bytes, ...]:
-    """The bytes of the files of a question. One that is given twice is read once, since a pipe has nothing for the second time."""
-    is_twice = len(files) == 2 and (files[0], limits[0]) == (files[1], limits[1])
+    """The bytes of the files of a question. A path that is given twice is read once, since a pipe has nothing for the second time."""
+    paths = [os.fspath(file) for file in files if isinstance(file, (str, os.PathLike))]
+    is_twice = len(paths) == 2 and (paths[0], limits[0]) == (paths[1], limits[1])
     read = tuple(content(file, limit) for file, limit in zip(files[: 1 if is_twice else 2], limits, strict=False))
     return read * 2 if is_twice else read
 

@@ -19,11 +19,8 @@ __all__ = ["ACCEPTED", "CLASH", "DOCUMENT_LIMIT", "FAULT", "MEANINGS", "CannotRu
 
 ACCEPTED, FAULT, CLASH = TmlStatus.DONE, TmlStatus.DOC_FAULT, TmlStatus.CLASH
 
-SECOND = {"verify": "evidence", "confirm": "placing", "score": "key"}
-"""What the second file of a question is called."""
-
 CROSSING = {command: f"{command}\0first\0".encode() for command in ("check", "spans", "dates", "solve", "relations", "reduce", "seconds")}
-CROSSING |= {command: f"{command}\0first\0second\0".encode() for command in SECOND}
+CROSSING |= {command: f"{command}\0first\0second\0".encode() for command in ("verify", "confirm", "score")}
 """The words of questions as they cross to the library."""
 
 BELIEVED, NEVER = {"check": b"accepted\n"}, b"\0"
@@ -70,20 +67,16 @@ class Program:
         return document
 
     def ask(self, words: list[str], document: bytes, other: bytes | None = None) -> Reply:
-        """Asks `tml` with the words about a document, and about another file where there is one.
+        """Asks `tml` with the words about a document, and about another file if there is one.
 
-        Of a process the document is the standard input, and the other file the last word. So no names of files are words of `tml`,
-        which takes none that is not UTF-8. A reply that is not believed is raised as a problem.
+        No names of files are words of `tml`, which takes none that is not UTF-8. A reply that is not believed is raised as a problem.
         """
         if self.loaded is not None:
             return ask_library(self.loaded, words[0], document, other)
-        from tml.longest import longest
-        from tml.process import open_file
+        from tml.process import Process
 
-        with open_file(other, f"the {SECOND.get(words[0], 'second file')}") as file:
-            last = [] if file is None else [f"/dev/fd/{file.fileno()}"]
-            status, text = run([self.path, *words, *last], document, longest(words[0]), file)
-        return believed(Reply(status, text, words[0], len(document)))
+        status, text = Process(self.path).answer(words[0], (document,) if other is None else (document, other), words[2:])
+        return Reply(status, text, words[0], len(document))
 
     def matrix_in_parts(self, document: bytes, take: Callable[[bytes], object]) -> int:
         """The status of `tml matrix` of a document in memory, whose text something takes in parts, as they come."""
