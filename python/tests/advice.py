@@ -24,8 +24,8 @@ from reference import Outcome as Answered
 from reference import expected
 from slips import GROUPS, SLIPS, Slip
 from stories import Story
-from tml_corpus.asking.libraries import AtPath
-from tml_corpus.asking.program import File, Program, Reply
+from tml.finding import AtPath
+from tml_corpus.asking.program import Program, Reply
 from tml_corpus.check import fix, judging
 from tml_corpus.check.fix import mended
 from tml_corpus.check.judgement import Judgement
@@ -58,10 +58,9 @@ class Reference(Program):
         super().__init__("reference", AtPath(LIBRARY) if os.path.isfile(LIBRARY) else None)
         self.load()
 
-    def ask(self, words: list[str], document: File, other: File | None = None) -> Reply:
+    def ask(self, words: list[str], document: bytes, other: bytes | None = None) -> Reply:
         if self.loaded is not None:
             return super().ask(words, document, other)
-        assert isinstance(document, bytes)
         return answer(words[0], document)
 
 

@@ -13,9 +13,8 @@ from typing import TypeVar
 from forked import run_forked
 from installing import INSTALLED
 from processes import BARE, with_own_bytecode
-from tml.finding import BUILT_LIBRARY
+from tml.finding import BUILT_LIBRARY, AtPath
 from tml.statuses import DOCUMENT_LIMIT
-from tml_corpus.asking.libraries import AtPath
 from tml_corpus.asking.program import Program
 
 Value = TypeVar("Value")

@@ -27,7 +27,7 @@ from typing import IO, NoReturn
 from processes import PATIENCE
 from tml_corpus.command_line.launch import MODULES
 
-LATER = ("pickle", "tml.library", "tml_corpus.asking.libraries")
+LATER = ("pickle", "tml.library")
 """What most runs of `tml-corpus` import only where they need it."""
 
 LAUNCHED = re.compile(r"^ *from tml_corpus\.command_line\.launch import (\w+)$", re.MULTILINE)

@@ -18,7 +18,8 @@ import tomllib  # noqa: F401
 
 from attacks import AttackTest
 from corpus import TML, document, needs_root
-from tml_corpus.asking.pool import Interruption, processors
+from tml.running import processors
+from tml_corpus.asking.pool import Interruption
 from tml_corpus.command_line import main as command_line
 from tml_corpus.command_line.parser import parser
 from tml_corpus.command_line.settings import settings_for

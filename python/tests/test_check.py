@@ -50,7 +50,7 @@ class Statuses(CorpusTest):
     def test_no_program(self) -> None:
         self.write("good.xml", GOOD)
         status, _, error = self.run_it("check", "good.xml", tml="/no/such/tml")
-        self.assertEqual((status, error), (2, "tml-corpus: no program /no/such/tml\n"))
+        self.assertEqual((status, error), (2, "tml-corpus: no program /no/such/tml, which --tml names\n"))
 
     def test_order_is_that_of_the_files(self) -> None:
         for number in range(60):

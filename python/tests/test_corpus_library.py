@@ -19,8 +19,8 @@ from daemons import ClusterTest
 from forked import run_forked
 from installing import INSTALLED
 from processes import BARE, PATIENCE, WITH_PACKAGES, children_of, interrupt, is_running, until, with_own_bytecode
+from tml.finding import AtPath, Loadable, find
 from tml_corpus.asking.archive import Sent, archive
-from tml_corpus.asking.libraries import AtPath, Loadable, library_of
 
 COMPANION = [*BARE, os.path.join(TOOLS, "tml-corpus")]
 STAND_IN = os.path.join(TESTS, "library_stand_in.c")
@@ -44,7 +44,7 @@ class LibraryTest(CorpusTest):
         """The status and the bytes of both streams; no program is named where that is None."""
         chosen = [] if tml is None else ["--tml", os.path.abspath(tml)]
         inherited = os.environ if python == BARE else with_own_bytecode()
-        others = {name: value for name, value in inherited.items() if name != "TML_LIBRARY"}
+        others = {name: value for name, value in inherited.items() if name not in ("TML", "TML_LIBRARY")}
         environment = {**others, "PYTHONIOENCODING": "utf-8", "PYTHONDONTWRITEBYTECODE": "1", **variables}
         program, given = os.path.join(tools, "tml-corpus"), [command, *chosen, *words]
         if python == BARE and tools == TOOLS:
@@ -228,14 +228,14 @@ class WhichLibrary(LibraryTest):
             self.assertEqual(b"a text that does not go with it" in done.stdout, status == 2)
 
     def test_words(self) -> None:
-        self.assertEqual(library_of(None, TML, is_chosen=True), None)
-        self.assertEqual(library_of("", None, is_chosen=False), None)
-        self.assertEqual(library_of("libtml.so.0", TML, is_chosen=True), AtPath("libtml.so.0", is_named=True))
+        self.assertEqual(find(TML).library, None)
+        self.assertEqual(find(TML, "").library, None)
+        self.assertEqual(find(TML, "libtml.so.0").library, AtPath("libtml.so.0", is_named=True))
         self.write("a.so", "")
         here = os.getcwd()
         os.chdir(self.folder)
         self.addCleanup(os.chdir, here)
-        self.assertEqual(library_of("a.so", TML, is_chosen=True), AtPath(os.path.join(os.getcwd(), "a.so"), is_named=True))
+        self.assertEqual(find(os.path.abspath(TML), "a.so").library, AtPath(os.path.join(os.getcwd(), "a.so"), is_named=True))
         status, _, error = self.run_bytes("check", "--library", "x", "--no-library", "a.so")
         self.assertEqual(status, 2)
         self.assertIn(b"not allowed with argument", error)

@@ -9,7 +9,7 @@ from ordinary import Item
 from tml.statuses import MOST_REMEMBERED
 from tml.tags.cutting import units_of_whole
 from tml.tags.source import Source
-from tml_corpus.asking.program import CannotRun, File, Program, Reply
+from tml_corpus.asking.program import CannotRun, Program, Reply
 from tml_corpus.document.dates import dates_of
 
 VALUES = (
@@ -87,7 +87,7 @@ class Asked(Program):
         self.questions: list[bytes] = []
         self.answer: Reply | None = None
 
-    def ask(self, words: list[str], document: File, other: File | None = None) -> Reply:
+    def ask(self, words: list[str], document: bytes, other: bytes | None = None) -> Reply:
         if words[0] != "dates":
             return super().ask(words, document, other)
         assert isinstance(document, bytes)

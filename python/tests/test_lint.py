@@ -9,9 +9,8 @@ from collections.abc import Sequence
 from unittest import mock
 
 from corpus import EVENT, INSTANCE, CorpusTest, document, needed, text_at
-from tml.running import CannotRun
+from tml.running import CannotRun, processors
 from tml.statuses import DOCUMENT_LIMIT
-from tml_corpus.asking.pool import processors
 from tml_corpus.command_line.settings_file import read_settings
 
 CREATED = '<TIMEX3 tid="t0" type="DATE" value="1998-03-12" functionInDocument="CREATION_TIME">x</TIMEX3>'

@@ -6,9 +6,13 @@ import os
 import subprocess
 import sys
 from collections.abc import Mapping, Sequence
+from unittest import mock
 
+import tml
+import tml_corpus
 from corpus import SOURCES, TML, TOOLS, CorpusTest, document
 from forked import Ended, run_forked
+from tml.finding import Answering, find
 
 TOUCHING = (
     '<TIMEX3 tid="a" type="DATE" value="1998-01-08">x</TIMEX3><TIMEX3 tid="b" type="DATE" value="1998-01-09">y</TIMEX3>'
@@ -123,6 +127,18 @@ class OneProgram(ProgramTest):
             self.assertIn(line.split()[0], ("CannotRun", "NotAnswered"))
         self.assertEqual(self.asked(), [])
 
+    def test_what_a_function_is_given_goes_before_the_variable(self) -> None:
+        with mock.patch.dict(os.environ, {"TML": self.path("named")}):
+            with self.assertRaisesRegex(tml.CannotRun, r"^no program no-such-tml, which Asked\.program names$"):
+                tml_corpus.check_folder(self.path("d.xml"), asked=tml_corpus.Asked(program="no-such-tml"))
+        self.assertEqual(self.asked(), [])
+
+    def test_a_program_that_is_to_run_elsewhere_need_not_be_here(self) -> None:
+        with mock.patch.dict(os.environ, {"TML": "/no/such/tml", "TML_LIBRARY": ""}):
+            for given in (None, "/no/such/tml"):
+                self.assertEqual(find(given, is_here=False), Answering("/no/such/tml", None, is_named=True))
+                self.assertRaises(tml.CannotRun, find, given)
+
 
 class Settings(ProgramTest):
     def setUp(self) -> None:
@@ -144,6 +160,11 @@ class Settings(ProgramTest):
             self.assertEqual(ended.status, 0, ended)
             changed = ended.out.decode() if "--write" not in words else self.read_text("c/wrapped.doc")
             self.assertEqual(changed, document(f"<TXT>{DAYS}</TXT>"))
+
+    def test_tml_edit_sees_a_wrapper_that_it_is_to_change(self) -> None:
+        self.write("c/tml-corpus.toml", self.settings)
+        ended = self.ran(("tml-edit", "--unwrap", "TXT", "c/wrapped.doc"), TML=TML)
+        self.assertEqual((ended.status, ended.out.decode()), (0, document(DAYS)), ended)
 
     def test_a_chosen_file_of_settings(self) -> None:
         self.write("elsewhere.toml", self.settings)

@@ -142,6 +142,11 @@ class ReadOnce(unittest.TestCase):
                 with self.piped(right_files()) as paths, OPENED.watching(self.folder):
                     self.same(question(paths, BY), wanted)
 
+    def test_a_pipe_that_is_given_twice(self) -> None:
+        with self.piped(right_files()) as paths, OPENED.watching(self.folder):
+            self.assertEqual(tml.score(paths.document, paths.document, BY), tml.score(FITS, FITS, BY))
+            self.assertEqual(tml.join(paths.evidence, paths.evidence, BY), tml.join(right_files().evidence, right_files().evidence, BY))
+
     def test_a_file_that_is_saved_meanwhile(self) -> None:
         for name, question, files in cases(FITS, CLASHES):
             with self.subTest(name):

@@ -17,7 +17,7 @@ from slips import SLIPS
 from stories import Story
 from tml.statuses import RELATIONS
 from tml.tags.profile import CLASS
-from tml_corpus.asking.program import File, Reply
+from tml_corpus.asking.program import Reply
 from tml_corpus.check.judgement import Judgement
 from tml_corpus.check.placed import PlacedFault, PlacedWarning
 from tml_corpus.lint.links import TO_EVENT, TO_TIME
@@ -46,7 +46,7 @@ class AskedReference(Asked):
         super().__init__(TML)
         self.reference = Reference()
 
-    def ask(self, words: list[str], document: File, other: File | None = None) -> Reply:
+    def ask(self, words: list[str], document: bytes, other: bytes | None = None) -> Reply:
         return self.reference.ask(words, document, other) if words[0] in ("check", "spans") else super().ask(words, document, other)
 
 

@@ -106,8 +106,8 @@ _tml_tools() {
     local options=(--help --version)
     COMPREPLY=()
     case ${COMP_WORDS[0]##*/} in
-        tml-edit) options+=(--rename --unwrap --value --iso --instances --links --name --drop-links --overlaps --touching-dates --write --glob --tml) ;;
-        tml-redundant-links) options+=(--glob --tml --jobs) ;;
+        tml-edit) options+=(--rename --unwrap --value --iso --instances --links --name --drop-links --overlaps --touching-dates --write --glob --config --tml) ;;
+        tml-redundant-links) options+=(--glob --config --tml --library --no-library --jobs) ;;
     esac
     case ${COMP_WORDS[COMP_CWORD - 1]}:${COMP_WORDS[COMP_CWORD]} in
         --rename:* | --unwrap:* | --value:* | --name:* | --drop-links:* | --glob:* | --jobs:*) _tml_offer ;;

@@ -9,8 +9,7 @@ from functools import cache
 from typing import Any, Protocol
 
 from .documents import Document
-from .finding import LIBRARY_VARIABLE, PROGRAM_VARIABLE, find_program, library_for, present_program
-from .library import Library
+from .finding import find
 from .misuse import UnknownName, is_a_document, not_a_file, not_an_answerer, unknown_interval, unknown_relation
 from .process import Process
 from .reading import TOO_LONG, events_of, read_accepted, read_fault, read_malformed, read_refused
@@ -50,19 +49,12 @@ class Answerer(Protocol):
 
 @cache
 def default_answerer() -> Answerer:
-    """The library where there is one, else the program. The environment may name either, or both."""
-    named = os.environ.get(PROGRAM_VARIABLE)
-    library = None if named and LIBRARY_VARIABLE not in os.environ else library_for(present_program())
-    if library is not None:
-        try:
-            return Library(library)
-        except CannotRun:
-            if LIBRARY_VARIABLE in os.environ:
-                raise
-    program = present_program()
-    if not named and program is None:
+    """The library if there is one, else the program."""
+    found = find()
+    library = found.library.load() if found.library is not None else None
+    if library is None and found.program is None:
         raise CannotRun(NOTHING_FOUND)
-    return Process(find_program(named or program))
+    return library or Process(found.needed())
 
 
 def content(file: File, limit: int) -> bytes:
@@ -77,6 +69,14 @@ def content(file: File, limit: int) -> bytes:
     if not isinstance(file, (bytes, bytearray, memoryview)):
         raise not_a_file(file)
     return file if isinstance(file, bytes) else bytes(file)
+
+
+def contents(files: Sequence[File], limits: Sequence[int]) -> tuple[bytes, ...]:
+    """The bytes of the files of a question. A path that is given twice is read once, since a pipe has nothing for the second time."""
+    paths = [os.fspath(file) for file in files if isinstance(file, (str, os.PathLike))]
+    is_twice = len(paths) == 2 and (paths[0], limits[0]) == (paths[1], limits[1])
+    read = tuple(content(file, limit) for file, limit in zip(files[: 1 if is_twice else 2], limits, strict=False))
+    return read * 2 if is_twice else read
 
 
 def content_at(path: str | os.PathLike[str], limit: int) -> bytes:
@@ -139,7 +139,7 @@ def answer_to(by: Answerer | None, command: str, *files: File, arguments: Sequen
     if by is not None and not callable(getattr(by, "answer", None)):
         raise not_an_answerer(by)
     answerer = default_answerer() if by is None else by
-    given = tuple(content(file, limit) for file, limit in zip(files, LIMITS.get(command, (DOCUMENT_LIMIT,)), strict=False))
+    given = contents(files, LIMITS.get(command, (DOCUMENT_LIMIT,)))
     number, text = answerer.answer(command, given, arguments)
     status = TmlStatus(number)
     if status == TmlStatus.NO_MEMORY:

@@ -1,10 +1,15 @@
-"""Where the program and the library lie: the ones that are named, those that were built in this repository, those of the system."""
+"""Who answers: the program and the library that are named, those that were built in this repository, or those of the system."""
 
 from __future__ import annotations
 
 import os
+from functools import cache
+from typing import TYPE_CHECKING, NamedTuple, Protocol
 
 from .running import CannotRun
+
+if TYPE_CHECKING:
+    from .library import Library
 
 TOP = os.path.normpath(os.path.join(os.path.dirname(os.path.realpath(__file__)), "../../.."))
 BUILT_PROGRAM, BUILT_LIBRARY = os.path.join(TOP, "crates/tml/out/tml"), os.path.join(TOP, "crates/tml_c/out/libtml.so")
@@ -16,47 +21,86 @@ LIBRARY_VARIABLE, PROGRAM_VARIABLE = "TML_LIBRARY", "TML"
 """The variables of the environment that name a library and a program."""
 
 
-def built_program() -> str | None:
-    """The program that was built beside this folder."""
-    return BUILT_PROGRAM if os.access(BUILT_PROGRAM, os.X_OK) else None
+class Loadable(Protocol):
+    """A library that is not loaded yet. It goes to the workers of a cluster as it is."""
+
+    def load(self) -> Library | None:
+        """It, loaded into this process; None if the program is to be asked instead."""
 
 
-def present_program() -> str | None:
-    """The program that was built beside this folder, else the one on PATH."""
-    return built_program() or on_path("tml")
+class AtPath(NamedTuple):
+    """The library that lies at a path, or that the loader of the system finds by its name. One that was named has to be there.
+
+    It is loaded after the process that asks it was forked, and never called by the program that forks: docs/LIBRARY.md says why.
+    """
+
+    path: str
+    is_named: bool = False
+
+    def load(self) -> Library | None:
+        try:
+            return library_at(self.path)
+        except CannotRun:
+            if self.is_named:
+                raise
+            return None
+
+
+@cache
+def library_at(path: str) -> Library:
+    """The library at a path, which a process loads once."""
+    from .library import Library
+
+    return Library(path)
+
+
+class Answering(NamedTuple):
+    """Who answers: a program if there is one, the library that is asked instead if there is one, and whether the program was named."""
+
+    program: str | None
+    library: AtPath | None = None
+    is_named: bool = False
+
+    def needed(self) -> str:
+        """The program, which has to be there."""
+        if self.program is None:
+            raise CannotRun("no program tml: build it as README.md says, or choose one by --tml PROGRAM")
+        return self.program
+
+
+def find(program: str | None = None, library: str | None = None, named_by: str = "--tml", *, is_here: bool = True) -> Answering:
+    """Who answers, in the order that docs/PYTHON.md gives. What the arguments name goes before what the variables name.
+
+    A program that was named has to run, unless it is to run elsewhere. An empty library is none.
+    """
+    if program is None:
+        program, named_by = os.environ.get(PROGRAM_VARIABLE) or None, "the variable TML"
+        library = os.environ.get(LIBRARY_VARIABLE) if library is None else library
+    if program is None:
+        found = on_path(BUILT_PROGRAM) or on_path("tml")
+    else:
+        found = on_path(program) if is_here else program
+        if found is None:
+            raise CannotRun(f"no program {program}, which {named_by} names")
+    if library is None:
+        return Answering(found, library_beside() if program is None else None, program is not None)
+    path = os.path.abspath(library) if os.path.isfile(library) else library
+    return Answering(found, AtPath(path, is_named=True) if library else None, program is not None)
 
 
 def on_path(name: str) -> str | None:
-    """The program that a name means: the one that lies there, where it has a folder, else the one on PATH."""
+    """The path of the program that a name means: the name itself if it has a folder, else what PATH has."""
     if os.path.dirname(name):
-        return name if os.access(name, os.X_OK) and not os.path.isdir(name) else None
+        return os.path.abspath(name) if os.access(name, os.X_OK) and not os.path.isdir(name) else None
     import shutil
 
-    return shutil.which(name)
+    found = shutil.which(name)
+    return found and os.path.abspath(found)
 
 
-def find_program(chosen: str | None) -> str:
-    """The program to run: the chosen one, else the one that is present."""
-    found = on_path(chosen) if chosen is not None else present_program()
-    if found is None and chosen is not None:
-        raise CannotRun(f"no program {chosen}")
-    if found is None:
-        raise CannotRun("no program tml: build it as README.md says, or choose one by --tml PROGRAM")
-    return os.path.abspath(found)
-
-
-def library_for(program: str | None) -> str | None:
-    """The library that answers as a program does, or None.
-
-    It is the one that the environment names, or none where it names the empty text. Else, of the program that was built here, it is the
-    one that was built after it; of another program that of the system; and where there is no program the one that is there.
-    """
-    named = os.environ.get(LIBRARY_VARIABLE)
-    if named is not None:
-        return named or None
-    if program is not None and program != built_program():
-        return SYSTEM_LIBRARY
-    if not os.path.isfile(BUILT_LIBRARY):
-        return None if program is not None else SYSTEM_LIBRARY
-    is_new = program is None or os.path.getmtime(BUILT_LIBRARY) >= os.path.getmtime(BUILT_PROGRAM)
-    return BUILT_LIBRARY if is_new else None
+def library_beside() -> AtPath | None:
+    """The library if nothing was named: the one built here, if the program built here is no newer; if neither was built, the system's."""
+    is_built = os.access(BUILT_PROGRAM, os.X_OK)
+    if os.path.isfile(BUILT_LIBRARY) and not (is_built and os.path.getmtime(BUILT_LIBRARY) < os.path.getmtime(BUILT_PROGRAM)):
+        return AtPath(BUILT_LIBRARY)
+    return None if is_built else AtPath(SYSTEM_LIBRARY)

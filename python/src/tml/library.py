@@ -30,6 +30,10 @@ class Library:
         answer.restype = ctypes.c_uint8
         self.path, self._answer, self._kept = path, answer, threading.local()
 
+    def __reduce__(self) -> tuple[type[Library], tuple[str]]:
+        """Its path alone goes to another process, which loads it anew."""
+        return Library, (self.path,)
+
     def answer(self, command: str, files: Sequence[bytes], arguments: Sequence[str] = ()) -> tuple[int, bytes]:
         """The status and the text of a command over files, two at most, with the words that follow them. No word has a zero byte."""
         first, second = (*files, b"", b"")[:2]

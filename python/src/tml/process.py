@@ -12,6 +12,9 @@ from .running import CannotRun, run
 
 __all__ = ["Process"]
 
+SECOND = {"verify": "evidence", "confirm": "placing", "score": "key"}
+"""What the second file of a question is called."""
+
 
 class Process:
     """The program that lies at a path. Threads may ask it at once."""
@@ -25,7 +28,7 @@ class Process:
         The first file is its standard input, the second one has no name. What `tml` would not answer is raised as a problem.
         """
         first, second = (*files, None, None)[:2]
-        with open_file(second, "a file of the question") as file:
+        with open_file(second, f"the {SECOND.get(command, 'second file')}") as file:
             named = ["-"] * (first is not None) + ([] if file is None else [f"/dev/fd/{file.fileno()}"])
             status, text = run([self.path, command, *named, *arguments], first or b"", longest(command), file)
         problem = refusal([command], status, text, len(first or b""))
@@ -35,10 +38,10 @@ class Process:
 
 
 @contextmanager
-def open_file(file: bytes | IO[bytes] | None, called: str) -> Iterator[IO[bytes] | None]:
-    """The second file of a question, open: one in memory is put into a file without a name."""
-    if not isinstance(file, bytes):
-        yield file
+def open_file(file: bytes | None, called: str) -> Iterator[IO[bytes] | None]:
+    """The second file of a question, if there is one: open, without a name."""
+    if file is None:
+        yield None
         return
     import tempfile
 

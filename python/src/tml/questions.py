@@ -119,7 +119,11 @@ def dates(document: File, by: Answerer | None = None) -> dict[str, Date] | Fault
 
 def solve(document: File, by: Answerer | None = None) -> Timeline | Clash | Fault | TooLong:
     """The least timeline that fits a document, with a rank for each start and end; or a minimal clash where none does."""
-    return told(answer_to(by, "solve", document), clash_of, lambda answer: read_timeline(answer.text, accepted_of(answer), answer.files[0]))
+    return told(
+        answer_to(by, "solve", document),
+        clash_of,
+        lambda answer: read_timeline(answer.text, accepted_of(answer).intervals, answer.files[0]),
+    )
 
 
 def clash(document: File, by: Answerer | None = None) -> Clash | Fault | TooLong | None:
@@ -135,11 +139,15 @@ def clashes(document: File, most: int | None = None, by: Answerer | None = None)
     """
     if most is not None and (isinstance(most, bool) or not isinstance(most, Integral) or most < 1):
         raise ValueError(f"most is how many clashes are wanted, 1 or more, and not {most!r}")
-    answer, found = answer_to(by, "solve", document), list[Clash]()
-    first = clash_of(answer)
-    if not isinstance(first, Clash):
-        return found if first is None else first
-    accepted, skeleton, left_out = accepted_of(answer), Skeleton(answer.files[0]), set[int]()
+    answer = answer_to(by, "solve", document)
+    problem = answer.problem()
+    if problem is not None:
+        return problem
+    found, left_out = list[Clash](), set[int]()
+    if answer.status != TmlStatus.CLASH:
+        return found
+    accepted, skeleton = accepted_of(answer), Skeleton(answer.files[0])
+    first: Clash | None = read_clash(answer.text, accepted, skeleton.content)
     while first is not None:
         found.append(first)
         left_out.update(link.number for link in first.links)
@@ -154,12 +162,15 @@ def clashes(document: File, most: int | None = None, by: Answerer | None = None)
 
 def timeline(document: File, by: Answerer | None = None) -> Timeline | Clash | Fault | TooLong:
     """The same as `solve`, with a row for each interval: its words, its ranks, and of a time what the calendar says."""
-    found = solve(document, by)
-    if not isinstance(found, Timeline):
-        return found
-    model, said = read(document, by), dates(document, by)
+    answer = answer_to(by, "solve", document)
+    problem = clash_of(answer)
+    if problem is not None:
+        return problem
+    [content] = answer.files
+    model, said = read(document if isinstance(document, Document) else content, answer.by), dates(content, answer.by)
     assert isinstance(model, Document)
     assert isinstance(said, dict)
+    found = read_timeline(answer.text, tuple(model.intervals), content)
     rows = (
         Row(name, one.text or one.attributes.get("value", ""), "time" if name in said else "event", *found.ranks[name], said.get(name))
         for name, one in model.intervals.items()

@@ -64,6 +64,11 @@ class Starts:
 STARTS = Starts()
 
 
+def processors() -> int:
+    """The number of processors that this process may use."""
+    return len(os.sched_getaffinity(0)) if hasattr(os, "sched_getaffinity") else os.cpu_count() or 1
+
+
 class Expected(Exception):
     """What the code expects to go wrong. Its text says all that a user has to know."""
 
@@ -74,12 +79,12 @@ class CannotRun(Expected):
 
 def run(
     words: Sequence[str],
-    document: bytes | IO[bytes],
+    document: bytes,
     most: int,
     other: IO[bytes] | None = None,
     take: Callable[[bytes], object] | None = None,
 ) -> tuple[int, bytes]:
-    """The status of a program and what it printed: at most so many bytes. It reads the document or the open file, and may read another one.
+    """The status of a program and what it printed: at most so many bytes. It reads the document, and may read an open file.
 
     Where something takes the parts of what it prints, nothing of that is kept here.
     No shell is used. The child gets a session of its own, so that Ctrl-C ends this program in its own way and does not end
@@ -87,11 +92,10 @@ def run(
     """
     import subprocess
 
-    given = document if isinstance(document, bytes) else None
-    child = started(words, document, other)
+    child = started(words, other)
     try:
         parts: list[bytes] = []
-        talk = Talk(child, memoryview(given or b""), most, take or parts.append)
+        talk = Talk(child, memoryview(document), most, take or parts.append)
         talk.go_on()
         status = ended(child, talk.seconds_left())
     except BaseException as error:
@@ -110,7 +114,7 @@ def run(
     return status, b"".join(parts)
 
 
-def started(words: Sequence[str], document: bytes | IO[bytes], other: IO[bytes] | None) -> subprocess.Popen[bytes]:
+def started(words: Sequence[str], other: IO[bytes] | None) -> subprocess.Popen[bytes]:
     """A program that was started, and is among the running ones."""
     import subprocess
 
@@ -119,7 +123,7 @@ def started(words: Sequence[str], document: bytes | IO[bytes], other: IO[bytes] 
         with STARTS.one():
             child = subprocess.Popen(
                 words,
-                stdin=subprocess.PIPE if isinstance(document, bytes) else document,
+                stdin=subprocess.PIPE,
                 stdout=subprocess.PIPE,
                 stderr=subprocess.DEVNULL,
                 bufsize=0,

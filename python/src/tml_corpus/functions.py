@@ -11,8 +11,6 @@ from collections.abc import Iterator, Sequence
 from contextlib import contextmanager
 from dataclasses import dataclass
 
-from tml.finding import PROGRAM_VARIABLE
-
 from .agreement.agree import NotCounted, PairReport, Wanted, find_pairs, pair_reports, sides_of
 from .agreement.scores import Corpus
 from .asking.pool import Interruption
@@ -34,7 +32,6 @@ class Asked:
     """Who is asked, and about which files of folders. What is left out is as `tml-corpus` has it."""
 
     program: str | None = None
-    """Without one it is that which the variable TML names, as for the package `tml`."""
     library: str | None = None
     """A library, or the empty text for none."""
     jobs: int | None = None
@@ -62,9 +59,8 @@ class Report:
 @contextmanager
 def run_over(paths: Sequence[str], asked: Asked) -> Iterator[Run]:
     """A run over paths. An interruption is raised, since the signal is the caller's."""
-    program = asked.program or os.environ.get(PROGRAM_VARIABLE) or None
-    words = Words(command="check", paths=paths, tml=program, library=asked.library, jobs=asked.jobs, config=asked.settings)
-    words.glob = asked.patterns
+    words = Words(command="check", paths=paths, library=asked.library, jobs=asked.jobs, config=asked.settings, glob=asked.patterns)
+    words.tml, words.named_by = asked.program or None, "Asked.program"
     with prepared(words, settings_of(words), Interruption()) as run:
         yield run
 

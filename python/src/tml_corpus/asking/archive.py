@@ -16,6 +16,7 @@ from pathlib import Path
 from typing import NamedTuple
 
 from tml import running
+from tml.finding import AtPath, Loadable
 from tml.library import Library
 from tml.running import CannotRun
 
@@ -23,7 +24,6 @@ from ..files.finding import reason
 from ..files.replacing import replace_file
 from ..files.writing import folder_for_a_while
 from .batch import FAMILY, SHARED
-from .libraries import AtPath, Loadable
 
 LIBRARY = "libtml.so"
 """The name of the library beside this package."""

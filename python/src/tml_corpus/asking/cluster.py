@@ -21,14 +21,13 @@ from contextlib import contextmanager
 from itertools import islice
 from typing import TYPE_CHECKING, TypeVar
 
-from tml.finding import built_program
+from tml.finding import Answering, AtPath, Loadable
 
 from ..command_line.statuses import ENDED
 from ..files.finding import Found, counted
 from ..files.writing import folder_for_a_while
 from .archive import archive
 from .batch import read, written
-from .libraries import AtPath, Loadable
 from .pool import PATIENCE, Interruption, nothing
 from .program import CannotRun, Program
 
@@ -121,19 +120,16 @@ class Cluster:
         if not held or None in held.values():
             self.client.upload_file(path)
 
-    def program(self, chosen: str | None) -> Program:
-        """The program that the workers start: the chosen one, else the one beside this folder if they see it, else that on their PATH."""
-        if chosen is not None:
-            names = [os.path.abspath(chosen) if os.path.dirname(chosen) else chosen]
-        else:
-            names = [name for name in (built_program(), "tml") if name is not None]
-        for name in names:
+    def program(self, found: Answering) -> Program:
+        """The program that the workers start: the named one, else the one that was found here if they see it, else that on their PATH."""
+        here = found.program or "tml"
+        for name in [os.path.abspath(here) if os.path.dirname(here) else here] + ["tml"] * (not found.is_named):
             with self.needed():
-                found = self.client.run(shutil.which, name)
-            lacking = [worker for worker, place in found.items() if place is None]
+                places = self.client.run(shutil.which, name)
+            lacking = [worker for worker, place in places.items() if place is None]
             if not lacking:
                 return Program(name, self.library)
-        at = f"{len(lacking)} of {counted(len(found), 'worker')}, such as {min(lacking)}"
+        at = f"{len(lacking)} of {counted(len(places), 'worker')}, such as {min(lacking)}"
         raise CannotRun(f"no program {name} at {at}: choose one that all of them see by --tml PROGRAM")
 
     def in_order(

@@ -89,11 +89,6 @@ class Interruption:
         self.happened.set()
 
 
-def processors() -> int:
-    """The number of processors that this program may use."""
-    return len(os.sched_getaffinity(0)) if hasattr(os, "sched_getaffinity") else os.cpu_count() or 1
-
-
 def nothing() -> None:
     """What a process does before its first item, where nothing else is said."""
 

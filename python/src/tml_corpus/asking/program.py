@@ -6,32 +6,21 @@ import io
 from collections.abc import Callable, Iterator
 from typing import IO, TYPE_CHECKING, NamedTuple
 
-from tml.finding import find_program, present_program
+from tml.finding import Loadable
 from tml.running import CannotRun, run
-from tml.statuses import DOCUMENT_LIMIT, EVIDENCE_LIMIT, TmlStatus
+from tml.statuses import DOCUMENT_LIMIT, TmlStatus
 
 from ..command_line.statuses import MEANINGS
-from ..files.finding import read_open, read_to
 
 if TYPE_CHECKING:
     from tml.library import Library
 
-    from .libraries import Loadable
-
-__all__ = [
-    "ACCEPTED", "CLASH", "DOCUMENT_LIMIT", "FAULT", "MEANINGS", "CannotRun", "File", "Program", "Reply", "find_program", "present_program",
-]  # fmt: skip
+__all__ = ["ACCEPTED", "CLASH", "DOCUMENT_LIMIT", "FAULT", "MEANINGS", "CannotRun", "Program", "Reply"]
 
 ACCEPTED, FAULT, CLASH = TmlStatus.DONE, TmlStatus.DOC_FAULT, TmlStatus.CLASH
 
-File = bytes | IO[bytes]
-"""A file in memory, or an open one."""
-
-SECOND = {"verify": "evidence", "confirm": "placing", "score": "key"}
-"""What the second file of a question is called."""
-
 CROSSING = {command: f"{command}\0first\0".encode() for command in ("check", "spans", "dates", "solve", "relations", "reduce", "seconds")}
-CROSSING |= {command: f"{command}\0first\0second\0".encode() for command in SECOND}
+CROSSING |= {command: f"{command}\0first\0second\0".encode() for command in ("verify", "confirm", "score")}
 """The words of questions as they cross to the library."""
 
 BELIEVED, NEVER = {"check": b"accepted\n"}, b"\0"
@@ -77,22 +66,17 @@ class Program:
         """The document as `tml` is asked about it; all places are the same in it."""
         return document
 
-    def ask(self, words: list[str], document: File, other: File | None = None) -> Reply:
-        """Asks `tml` with the words about a document, and about another file where there is one.
+    def ask(self, words: list[str], document: bytes, other: bytes | None = None) -> Reply:
+        """Asks `tml` with the words about a document, and about another file if there is one.
 
-        Of a process the document is the standard input, and the other file the last word. So no names of files are words of `tml`,
-        which takes none that is not UTF-8. A reply that is not believed is raised as a problem.
+        No names of files are words of `tml`, which takes none that is not UTF-8. A reply that is not believed is raised as a problem.
         """
         if self.loaded is not None:
             return ask_library(self.loaded, words[0], document, other)
-        from tml.longest import longest
-        from tml.process import open_file
+        from tml.process import Process
 
-        size = len(document) if isinstance(document, bytes) else None
-        with open_file(other, f"the {SECOND.get(words[0], 'second file')}") as file:
-            last = [] if file is None else [f"/dev/fd/{file.fileno()}"]
-            status, text = run([self.path, *words, *last], document, longest(words[0]), file)
-        return believed(Reply(status, text, words[0], size))
+        status, text = Process(self.path).answer(words[0], (document,) if other is None else (document, other), words[2:])
+        return Reply(status, text, words[0], len(document))
 
     def matrix_in_parts(self, document: bytes, take: Callable[[bytes], object]) -> int:
         """The status of `tml matrix` of a document in memory, whose text something takes in parts, as they come."""
@@ -117,8 +101,8 @@ class Program:
         """`tml score` of two documents in memory."""
         return self.ask(["score", "-"], document, self.seen(key))
 
-    def check(self, document: File) -> Reply:
-        """`tml check` of a document in memory or of an open file."""
+    def check(self, document: bytes) -> Reply:
+        """`tml check` of a document in memory."""
         return self.ask(["check", "-"], document)
 
     def spans(self, document: bytes) -> Reply:
@@ -126,15 +110,13 @@ class Program:
         return self.ask(["spans", "-"], document)
 
 
-def ask_library(library: Library, command: str, document: File, other: File | None) -> Reply:
+def ask_library(library: Library, command: str, document: bytes, other: bytes | None) -> Reply:
     """What the library answers to a command about a document, and about another file where there is one."""
-    first = document if isinstance(document, bytes) else read_open(document)
-    second = other if isinstance(other, bytes) else b"" if other is None else read_to(other, EVIDENCE_LIMIT + 1)
     try:
-        status, text = library.call(CROSSING[command], first, second)
+        status, text = library.call(CROSSING[command], document, other or b"")
     except MemoryError:
         status, text = TmlStatus.NO_MEMORY, b""
-    reply = Reply(status, text, command, len(first))
+    reply = Reply(status, text, command, len(document))
     return reply if status == TmlStatus.DONE and text.startswith(BELIEVED.get(command, NEVER)) else believed(reply)
 
 

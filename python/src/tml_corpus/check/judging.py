@@ -10,7 +10,7 @@ from tml.places import Places
 from tml.tags.cutting import units_of_whole
 from tml.tags.source import Explanation, Source
 
-from ..asking.program import FAULT, Program, Reply, believed
+from ..asking.program import FAULT, Program, Reply
 from ..lint.kinds import Lint
 from ..origins.restored import advise, found_origin
 from .judgement import Judgement, problem_of
@@ -20,7 +20,7 @@ from .placed import Mark, PlacedFault, PlacedNote, PlacedWarning
 def judge_document(
     program: Program, path: str, document: bytes, explained: bool, more: int, lint: Lint | None = None, reply: Reply | None = None
 ) -> Judgement:
-    """The judgement of a document in memory, by a reply that accepts it or tells its fault if there was one for these bytes."""
+    """The judgement of a document in memory, by a reply that accepts it or tells its fault, if there is one."""
     if reply is None:
         reply = program.check(document)
     fault = read_fault(reply.text) if reply.status == FAULT else None
@@ -29,7 +29,6 @@ def judge_document(
         if lint is not None and judgement.accepted():
             judgement.warnings = placed_warnings(program, Source(document, units_of_whole(program, document)), lint)
         return judgement
-    believed(Reply(reply.status, reply.text, reply.command, len(document)))
     places = Places(document)
     found = explain(program, document, fault, places) if explained or more else Explanation()
     if explained:

@@ -14,10 +14,13 @@ from collections.abc import Callable, Iterator, Sequence
 from contextlib import contextmanager
 from functools import partial
 from importlib import import_module
-from typing import TYPE_CHECKING, Any
+from typing import Any
 
-from ..asking.pool import Interruption, in_order, processors
-from ..asking.program import CannotRun, Program, find_program, present_program
+from tml.finding import Answering, find
+from tml.running import processors
+
+from ..asking.pool import Interruption, in_order
+from ..asking.program import CannotRun, Program
 from ..files.finding import PATTERNS, Found, find_files
 from ..files.standard_input import STANDARD_INPUT, StandardInput
 from .output import complain, run
@@ -26,9 +29,6 @@ from .run import Files, Run
 from .settings import Settings, settings_for
 from .statuses import Status
 
-if TYPE_CHECKING:
-    from ..asking.libraries import AtPath
-
 
 class Words(argparse.Namespace):
     """The words that are read here; where a command does not have one of them it is as it stands here."""
@@ -36,6 +36,7 @@ class Words(argparse.Namespace):
     command: str
     config: str | None = None
     tml: str | None = None
+    named_by: str = "--tml"
     library: str | None = ""
     cluster: str | None = None
     jobs: int | None = 1
@@ -92,25 +93,17 @@ def prepared(words: Words, settings: Settings, stop: Interruption) -> Iterator[R
     """The run: with the program, and what does the work on files in their order, the processors here or a cluster."""
     if words.cluster is None:
         # An editor is told only once it has greeted the server that there is no program.
-        path = "" if words.command == "serve" else find_program(words.tml)
-        program = with_wrappers(Program(path, library(words, path)), words, settings)
+        found = Answering("") if words.command == "serve" else find(words.tml, words.library, words.named_by)
+        program = with_wrappers(Program(found.needed(), found.library), words, settings)
         order = partial(in_order, workers=max(words.jobs or settings.jobs or processors(), 1), prepare=program.load)
         yield Run(program, settings, files_of(words, settings), stop, order, words.quiet)
     else:
         from ..asking.cluster import connected
 
-        with connected(words.cluster, library(words, present_program()), stop) as cluster:
-            program = with_wrappers(cluster.program(words.tml), words, settings)
+        found = find(words.tml, words.library, is_here=False)
+        with connected(words.cluster, found.library, stop) as cluster:
+            program = with_wrappers(cluster.program(found), words, settings)
             yield Run(program, settings, files_of(words, settings), stop, partial(cluster.in_order, prepare=program.load), words.quiet)
-
-
-def library(words: Words, program: str | None) -> AtPath | None:
-    """The library that is asked in the place of the program, by commands that work in several processes."""
-    if words.library == "":
-        return None
-    from ..asking.libraries import library_of
-
-    return library_of(words.library, program, is_chosen=words.tml is not None)
 
 
 def settings_of(words: Words) -> Settings:

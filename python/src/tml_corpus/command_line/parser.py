@@ -267,7 +267,9 @@ def shared_words(words: Parser) -> None:
     """The words of all commands."""
     settings = "the settings (default: tml-corpus.toml in the folder of the paths or nearest above)"
     words.add_argument("--config", metavar="FILE", help=settings)
-    words.add_argument("--tml", metavar="PROGRAM", help="the program tml (default: that of this repository, else that on PATH)")
+    words.add_argument(
+        "--tml", metavar="PROGRAM", help="the program tml (default: that of the variable TML, else of this repository, else on PATH)"
+    )
 
 
 def number_from_zero(text: str) -> int:

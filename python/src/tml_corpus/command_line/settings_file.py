@@ -4,9 +4,10 @@ from __future__ import annotations
 
 import re
 
-from ..asking.pool import processors
+from tml.running import processors
+
 from ..asking.program import CannotRun
-from ..files.finding import CannotRead, Found, opened, read_to
+from ..files.finding import CannotRead, Found, read_document
 from ..files.watch import signature
 from ..lint.kinds import NAMES
 from .settings import Settings
@@ -69,8 +70,7 @@ def read_text(path: str) -> str:
 
     Names within names, with dots between them, take the reader of TOML memory in the square of how many there are. No setting has any.
     """
-    with opened(path) as file:
-        content = read_to(file, LIMIT + 1)
+    content = read_document(path)
     if len(content) > LIMIT:
         raise CannotRead(f"it has more than {LIMIT:,} bytes")
     text = content.decode("utf-8")

@@ -15,17 +15,18 @@ from collections.abc import Sequence
 from dataclasses import dataclass, field
 from functools import partial
 
-from ..asking.libraries import library_of
-from ..asking.pool import Interruption, in_order, processors
-from ..asking.program import Program, find_program
+from ..asking.pool import Interruption
+from ..asking.program import Program
 from ..asking.room import document_of
 from ..check.formats import located
+from ..command_line.main import Words, prepared, settings_of
 from ..command_line.output import ProgramParser, RawFormatter, run
+from ..command_line.parser import corpus_words
 from ..command_line.run import print_each
 from ..command_line.statuses import Status
 from ..document.reduced import problem_of, read_reduced
 from ..document.words import Wording
-from ..files.finding import PATTERNS, Found, counted, find_files, shown
+from ..files.finding import Found, counted, shown
 
 
 @dataclass
@@ -45,10 +46,7 @@ class Report:
 
 def ask_of_all(words: list[str]) -> int:
     """Asks about all files and answers the status."""
-    options = parser().parse_args(words)
-    path = find_program(options.tml)
-    program = Program(path, library_of(None, path, is_chosen=options.tml is not None))
-    found = find_files(options.paths, options.glob or list(PATTERNS))
+    options = parser().parse_args(words, Words(command="redundant-links", library=None, jobs=None))
     links = follows = problems = 0
 
     def reported(_: Found, report: Report) -> str:
@@ -57,12 +55,12 @@ def ask_of_all(words: list[str]) -> int:
         links, follows, problems = links + report.links, follows + len(report.follows), problems + (report.problem is not None)
         return text
 
-    with Interruption() as stop:
-        reports = in_order(partial(look, program), found, max(options.jobs, 1), stop, skipped, program.load)
-        print_each(found, reports, reported, skipped)
+    with Interruption() as stop, prepared(options, settings_of(options), stop) as made:
+        found = made.files.search()
+        print_each(found, made.each(partial(look, made.program), found, skipped), reported, skipped)
         files = f"{counted(len(found), 'file')}, {problems} skipped"
         print(f"{files}; links that follow from those that are kept: {follows} of {links}")
-        if stop.happened.is_set():
+        if made.is_interrupted():
             print("interrupted: not all files were looked at")
             return Status.INTERRUPTED
     return Status.TROUBLE if problems else Status.FINDING if follows else Status.SUCCESS
@@ -71,10 +69,7 @@ def ask_of_all(words: list[str]) -> int:
 def parser() -> ProgramParser:
     """The words that are understood."""
     words = ProgramParser(description=__doc__, formatter_class=RawFormatter)
-    words.add_argument("paths", nargs="+", metavar="PATH", help="a file, or a folder to search")
-    words.add_argument("--glob", action="append", metavar="PATTERN", help=f"names to look for in folders (default {' '.join(PATTERNS)})")
-    words.add_argument("--tml", metavar="PROGRAM", help="the program tml (default: that of this repository, else that on PATH)")
-    words.add_argument("--jobs", type=int, default=processors(), metavar="N", help="how many files at once (default: one per processor)")
+    corpus_words(words)
     return words
 
 

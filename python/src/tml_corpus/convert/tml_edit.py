@@ -37,12 +37,16 @@ from tml.tags.edits import Edit, applied, applied_in_order, with_spaces_before, 
 from tml.tags.profile import IDENTIFIERS
 from tml.tags.units import Attribute, Unit, Units
 
-from ..asking.program import ACCEPTED, DOCUMENT_LIMIT, FAULT, MEANINGS, CannotRun, Program, find_program
+from ..asking.pool import Interruption
+from ..asking.program import ACCEPTED, DOCUMENT_LIMIT, FAULT, MEANINGS, CannotRun, Program
 from ..clash.touching import Change, asks, touching_changes, with_changes
+from ..command_line.main import Words, prepared, settings_of
 from ..command_line.output import ProgramParser, RawFormatter, complain, run, standard_input
+from ..command_line.parser import glob_words, shared_words
+from ..command_line.run import Run
 from ..command_line.statuses import Status
 from ..document.words import Wording
-from ..files.finding import PATTERNS, Found, counted, find_files, read_document, shown
+from ..files.finding import Found, counted, read_document, shown
 from ..files.standard_input import STANDARD_INPUT
 from .tables import BadTable, Word, rows
 
@@ -319,9 +323,9 @@ def utf8(text: str) -> str:
 def parser() -> ProgramParser:
     """The words that are understood."""
     words = ProgramParser(description=__doc__, formatter_class=RawFormatter)
-    words.add_argument("documents", nargs="+", metavar="DOC", help="the document, or a folder to search; - is standard input")
+    words.add_argument("paths", nargs="+", metavar="DOC", help="the document, or a folder to search; - is standard input")
     words.add_argument("--write", action="store_true", help="overwrite the files with the changed documents")
-    words.add_argument("--glob", action="append", metavar="PATTERN", help=f"names to look for in folders (default {' '.join(PATTERNS)})")
+    glob_words(words)
     words.add_argument("--rename", type=renaming, action="append", default=[], metavar="OLD=NEW", help="rename tags")
     words.add_argument("--unwrap", type=names_of, action="extend", default=[], metavar="NAMES", help="remove tags, and keep what they hold")
     words.add_argument(
@@ -351,7 +355,7 @@ def parser() -> ProgramParser:
     words.add_argument(
         "--touching-dates", action="store_true", help="give links between dates that touch the relation that holds, as IBEFORE for BEFORE"
     )
-    words.add_argument("--tml", metavar="PROGRAM", help="the program tml (default: that of this repository, else that on PATH)")
+    shared_words(words)
     return words
 
 
@@ -380,19 +384,23 @@ def edited(program: Program, options: argparse.Namespace, path: str, text: bytes
 
 def edit(words: list[str]) -> int:
     """Writes the changed document, or what there is to say of many, and answers the status."""
-    options = parser().parse_args(words)
-    first, *others = options.documents
-    if STANDARD_INPUT in options.documents and (others or options.write):
+    options = parser().parse_args(words, Words(command="tml-edit"))
+    first, *others = options.paths
+    if STANDARD_INPUT in options.paths and (others or options.write):
         raise CannotRun("- has to be the only path, and goes without --write")
-    program = Program(find_program(options.tml))
-    if others or options.write or os.path.isdir(first):
-        return edit_files(program, options)
+    changed_tags = {*options.unwrap, *(old for old, _ in options.rename), *(tag for tag, *_ in options.value)}
+    settings = settings_of(options)
+    # A wrapper that is to be changed has to be seen.
+    settings = settings._replace(wrappers=tuple(name for name in settings.wrappers if name not in changed_tags))
+    with prepared(options, settings, Interruption()) as made:
+        if others or options.write or os.path.isdir(first):
+            return edit_files(made, options)
 
-    def print_changed(one: Found) -> None:
-        text = standard_input(DOCUMENT_LIMIT + 1) if first == STANDARD_INPUT else read_document(one.place())
-        sys.stdout.buffer.write(edited(program, options, first, text))
+        def print_changed(one: Found) -> None:
+            text = standard_input(DOCUMENT_LIMIT + 1) if first == STANDARD_INPUT else read_document(one.place())
+            sys.stdout.buffer.write(edited(made.program, options, first, text))
 
-    return attempted(partial(tried, print_changed), Found(first), not_changed)
+        return attempted(partial(tried, print_changed), Found(first), not_changed)
 
 
 def tried(work: Callable[[Found], None], one: Found) -> Status:
@@ -411,16 +419,16 @@ def not_changed(one: Found, problem: str) -> Status:
     return Status.TROUBLE
 
 
-def edit_files(program: Program, options: argparse.Namespace) -> int:
+def edit_files(made: Run, options: argparse.Namespace) -> int:
     """Changes all files that are named or lie in folders, or prints how it would, and answers the status."""
     from ..check.fix import Fixed, difference, write
 
-    found = find_files(options.documents, options.glob or list(PATTERNS))
+    found = made.files.search()
     changed: list[Found] = []
 
     def change(one: Found) -> None:
         before = read_document(one.place())
-        after = edited(program, options, one.path, before)
+        after = edited(made.program, options, one.path, before)
         if after == before:
             return
         fixed = Fixed(before, after)

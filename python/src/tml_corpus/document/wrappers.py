@@ -8,12 +8,11 @@ from __future__ import annotations
 import re
 from collections.abc import Iterable
 
+from tml.finding import Loadable
 from tml.tags.edits import applied_in_order, blank
 from tml.tags.units import read_units
 
-from ..asking.libraries import Loadable
-from ..asking.program import ACCEPTED, File, Program, Reply
-from ..files.finding import read_open
+from ..asking.program import ACCEPTED, Program, Reply
 
 
 class Unwrapping(Program):
@@ -25,10 +24,8 @@ class Unwrapping(Program):
         self.last = b"", b""
         self.opening = re.compile(b"|".join(b"<" + re.escape(name.encode()) for name in sorted(self.names)))
 
-    def ask(self, words: list[str], document: File, other: File | None = None) -> Reply:
+    def ask(self, words: list[str], document: bytes, other: bytes | None = None) -> Reply:
         """Asks about the document without these tags; a document that is not cut into units is asked about as it is."""
-        if not isinstance(document, bytes):
-            document = read_open(document)
         return super().ask(words, self.seen(document), other)
 
     def seen(self, document: bytes) -> bytes:

@@ -4,9 +4,8 @@ import os
 import re
 import stat
 from collections.abc import Callable, Iterator, Sequence
-from contextlib import contextmanager
 from itertools import chain
-from typing import IO, NamedTuple
+from typing import NamedTuple
 
 from tml.running import PART, Expected
 from tml.saying import counted as counted  # noqa: F401 (which many take from here)
@@ -115,7 +114,7 @@ def entries_of(place: str, matches: Callable[[str], object]) -> tuple[list[str],
 
 def lines_of(path: str) -> Iterator[bytes]:
     """The lines of a file with their ends, one by one. One that is too long is cut behind the first byte too many, and is the last."""
-    with opened(path) as file, open(file.fileno(), "rb", closefd=False) as lines:
+    with open(handle_of(path)[0], "rb") as lines:
         try:
             while line := lines.readline(LONGEST_LINE + 1):
                 yield line
@@ -123,14 +122,6 @@ def lines_of(path: str) -> Iterator[bytes]:
                     return
         except OSError as error:
             raise CannotRead(reason(error)) from None
-
-
-@contextmanager
-def opened(path: str) -> Iterator[IO[bytes]]:
-    """The file at a path, open."""
-    handle, _ = handle_of(path)
-    with os.fdopen(handle, "rb", buffering=0) as file:
-        yield file
 
 
 def handle_of(path: str) -> tuple[int, int]:
@@ -169,24 +160,6 @@ def read_handle(handle: int, size: int) -> bytes:
         parts.append(part)
         room -= len(part)
     return b"".join(parts)
-
-
-def read_open(file: IO[bytes]) -> bytes:
-    """The bytes of an open file from its beginning, as many as `read_document` takes."""
-    return read_to(file, DOCUMENT_LIMIT + 1)
-
-
-def read_to(file: IO[bytes], most: int) -> bytes:
-    """The bytes of an open file from its beginning, at most so many."""
-    try:
-        file.seek(0)
-        parts, room = [], most
-        while room > 0 and (part := file.read(room)):
-            parts.append(part)
-            room -= len(part)
-        return b"".join(parts)
-    except (OSError, ValueError) as error:
-        raise CannotRead(reason(error)) from None
 
 
 def reason(error: Exception) -> str:

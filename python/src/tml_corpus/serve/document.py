@@ -11,13 +11,14 @@ from urllib.parse import unquote, urlsplit
 
 from tml.explaining.explain import explain
 from tml.explaining.faults import BAD_MARKUP, Fault, read_fault
+from tml.finding import find
 from tml.places import Places
 from tml.tags.cutting import units_of_whole
 from tml.tags.profile import IDENTIFIERS, TABLE, Kind
 from tml.tags.source import Explanation, Source
 from tml.tags.units import Attribute, Unit, Units, end_of, open_tags, read_units
 
-from ..asking.program import ACCEPTED, CLASH, FAULT, CannotRun, File, Program, Reply, find_program
+from ..asking.program import ACCEPTED, CLASH, FAULT, CannotRun, Program, Reply
 from ..check.fix import Step, steps
 from ..check.further import further_faults
 from ..check.judgement import Judgement
@@ -50,11 +51,11 @@ class Asked(Program):
     chosen: str | None = None
     wanted: Callable[[], bool] = staticmethod(lambda: True)
 
-    def ask(self, words: list[str], document: File, other: File | None = None) -> Reply:
+    def ask(self, words: list[str], document: bytes, other: bytes | None = None) -> Reply:
         """Asks, where the answer is still wanted."""
         if not self.wanted():
             raise Overtaken
-        self.path = self.path or find_program(self.chosen)
+        self.path = self.path or find(self.chosen, "").needed()
         return super().ask(words, document, other)
 
 

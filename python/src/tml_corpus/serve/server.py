@@ -16,9 +16,10 @@ from threading import Event, Thread
 from typing import IO
 
 from tml.attempts import cause
+from tml.finding import find
 from tml.running import Expected
 
-from ..asking.program import CannotRun, find_program
+from ..asking.program import CannotRun
 from ..command_line.output import INPUT
 from ..command_line.settings import Chosen, Settings, settings_for
 from ..command_line.settings_file import Remembering
@@ -112,7 +113,7 @@ class Server:
     def look_for_program(self) -> None:
         """Tells the client if there is no `tml`. It is looked for again at each question, so that it may come later."""
         try:
-            find_program(self.tml)
+            find(self.tml, "").needed()
         except CannotRun as problem:
             send(self.output, {"method": "window/showMessage", "params": {"type": ERROR, "message": f"tml-corpus serve: {problem}"}})
 
