@@ -124,7 +124,7 @@ class Style:
     @cached_property
     def shapes(self) -> dict[str, tuple[Callable[[str], str], set[str]]]:
         """For each name how its identifiers are alike, if they are, and what they have in common."""
-        found = {}
+        found = dict[str, tuple[Callable[[str], str], set[str]]]()
         for (name, known), how in product(self.identifiers.items(), (outline, shape)):
             alike = {how(one) for one in known}
             if 2 * len(alike) <= len(known):
