@@ -68,8 +68,8 @@ class Picture:
 
     @classmethod
     def read(cls, source: str) -> Picture:
-        """What is seen in a file of SVG."""
-        root = ElementTree.fromstring(source.encode())
+        """What is seen in a file of SVG, or in the last picture of a page."""
+        *_, root = ElementTree.fromstring(source.encode()).iter(SVG + "svg")
         _, _, width, height = map(float, root.attrib["viewBox"].split(" "))
         found = cls(width, height)
         for group in root.iter(SVG + "g"):

@@ -84,7 +84,7 @@ def figure_of(timeline: Timeline, width: float, *, one_each: bool = False, with_
     put_places(drawing, every, top, bottom)
     for order in known.orders:
         drawing.lines += line_of(drawing, order)
-    figure = Figure(width, f"Timeline of {plain(timeline.title)}", said=described(timeline, every))
+    figure = Figure(width, f"Timeline of {plain(timeline.title)}", said=described(timeline, every), axis=top + 4)
     figure.shapes = [*drawing.behind, *drawing.lines, *drawing.front]
     if not timeline.rows:
         bottom = put_lines(figure, EDGE, EDGE + LABEL, NO_INTERVAL)
@@ -279,7 +279,7 @@ def put_bar(drawing: Drawing, number: int, y: float, text: str, begin: float) ->
     """One bar: its outline, its solid part, its marks, and its label."""
     row, extent = drawing.rows[number], drawing.extents[number]
     left, right = extent.outer
-    filling = "unasserted" if row.unasserted else row.kind
+    filling = row.filling()
     said = drawing.said(row)
     rounded = min(BAR / 2, (right - left) / 2) if row.kind == "event" else 0.0
     outline = Box(

@@ -22,7 +22,8 @@ from ..document.around import Around, Text, text_around
 from ..document.asserted import AssertedCopy, asserted_copy, unasserted
 from ..document.words import Wording
 from ..figure.draw import FORMS as BARE_FORMS
-from ..figure.draw import SCREEN, Paper, clash_picture, placing_picture, timeline_picture
+from ..figure.draw import SCREEN, Paper, clash_picture, placing_figure, timeline_figure, written
+from ..figure.shapes import Figure
 from ..files.finding import CannotRead, counted, read_document, shown
 from ..files.replacing import replace_file
 from ..matrix.orders import PointOrders, base_relation
@@ -111,12 +112,12 @@ def draw_placing(program: Program, path: str, target: str, choices: Choices) -> 
 
 def picture_of_placing(program: Program, path: str, target: str, found: Placed, choices: Choices) -> str | bytes:
     """The picture of a placing."""
-    from .scaled import scaled_page, with_ranges
+    from .scaled import with_ranges
 
     seconds = dict(zip(found.order, ((one.start, one.end) for one in found.intervals), strict=True))
     ranks = [seconds[number] for number in range(len(seconds))]
     timeline = with_ranges(timeline_of(program, os.path.basename(path), found.wording, ranks, choices), found)
-    return scaled_page(timeline) if form_of(target) in PAGES else placing_picture(timeline, choices.in_text_order)
+    return picture_of(timeline, placing_figure(timeline, choices.in_text_order), target, SCREEN)
 
 
 def draw_document(program: Program, path: str, document: bytes, target: str, choices: Choices) -> Drawn:
@@ -129,9 +130,14 @@ def draw_document(program: Program, path: str, document: bytes, target: str, cho
     places = counted(len(timeline.known.axis), "place")
     counts = f"{counted(len(timeline.rows), 'interval')}, {counted(len(timeline.ends), 'link')}, an axis of {places}"
     said = found.text + drawn_line(path, target, counts, copy)
-    if form_of(target) in PAGES:
-        return Drawn(said, Status.SUCCESS, page(timeline))
-    return Drawn(said, Status.SUCCESS, timeline_picture(timeline, choices.paper or SCREEN, choices.in_text_order))
+    paper = choices.paper or SCREEN
+    figure = timeline_figure(timeline, paper, choices.in_text_order)
+    return Drawn(said, Status.SUCCESS, picture_of(timeline, figure, target, paper))
+
+
+def picture_of(timeline: Timeline, figure: Figure, target: str, paper: Paper) -> str | bytes:
+    """A picture as a page, or as a file of its own."""
+    return page(timeline, figure) if form_of(target) in PAGES else written(figure, paper)
 
 
 def drawn_clash(program: Program, path: str, target: str, unfit: Unfit, choices: Choices) -> Drawn:
