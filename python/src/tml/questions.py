@@ -13,6 +13,7 @@ from __future__ import annotations
 import io
 import os
 from collections.abc import Iterable
+from dataclasses import replace
 from itertools import chain
 
 from .asking import Answer, Answerer, File, answer_to
@@ -114,7 +115,8 @@ def dates(document: File, by: Answerer | None = None) -> dict[str, Date] | Fault
 def solve(document: File, by: Answerer | None = None) -> Timeline | Clash | Fault | TooLong:
     """The least timeline that fits a document, or a minimal clash where none does."""
     answer = answer_to(by, "solve", document)
-    return answer.problem() or clash_of(answer) or read_timeline(answer.text, accepted_of(answer))
+    found = answer.problem() or clash_of(answer) or read_timeline(answer.text, accepted_of(answer), answer.files[0])
+    return replace(found, by=by) if isinstance(found, Timeline) else found
 
 
 def clash(document: File, by: Answerer | None = None) -> Clash | Fault | TooLong | None:
@@ -161,7 +163,7 @@ def timeline(document: File, by: Answerer | None = None) -> Timeline | Clash | F
         Row(name, one.text or one.attributes.get("value", ""), "time" if name in said else "event", *found.ranks[name], said.get(name))
         for name, one in model.intervals.items()
     )
-    return Timeline(found.ranks, found.evidence, tuple(sorted(rows, key=lambda row: (row.start, row.end))))
+    return replace(found, rows=tuple(sorted(rows, key=lambda row: (row.start, row.end))))
 
 
 def ask(

@@ -136,9 +136,9 @@ def read_relations(text: bytes) -> list[Relation]:
     return [Relation(first, relation, second) for first, relation, second in lines_of(text)]
 
 
-def read_timeline(text: bytes, of: Accepted) -> Timeline:
+def read_timeline(text: bytes, of: Accepted, document: bytes) -> Timeline:
     """A timeline that was printed as evidence."""
-    return Timeline(Evidence(text).ranks(of.intervals), text)
+    return Timeline(Evidence(text).ranks(of.intervals), text, content=document)
 
 
 def cited(text: bytes) -> list[int]:

@@ -16,6 +16,7 @@ from .saying import counted
 from .statuses import DOCUMENT_LIMIT, EVIDENCE_LIMIT
 
 if TYPE_CHECKING:
+    from .asking import Answerer
     from .explaining.telling import Told
 
 __all__ = [
@@ -213,6 +214,11 @@ class Timeline(Result):
     ranks: Mapping[str, Ranks]
     evidence: bytes = field(repr=False)
     rows: tuple[Row, ...] = field(default=(), repr=False, compare=False)
+    content: bytes = field(default=b"", repr=False, compare=False, metadata=NOT_SHOWN)
+    """The bytes of the document."""
+
+    by: Answerer | None = field(default=None, repr=False, compare=False, metadata=NOT_SHOWN)
+    """Who was asked for it, if somebody was named."""
 
     def _repr_svg_(self) -> str:
         from .notebooks import svg_of_timeline
