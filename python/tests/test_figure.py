@@ -109,6 +109,17 @@ class Timelines(FigureTest):
         stated = {(one.first, one.second) for one in picture.statements() if one.kind == "line before"}
         self.assertEqual(stated, {("ei2+", "ei1-"), ("ei7+", "ei8-"), ("ei5-", "ei6-")})
 
+    def test_the_legend_has_what_the_picture_has(self) -> None:
+        chain = "".join(map(event, range(3))) + link(0, "BEFORE", 1) + link(1, "BEFORE", 2)
+        free = "".join(map(event, range(3)))
+        inner = "".join(map(event, range(5))) + "".join(link(number, "BEFORE", number + 1) for number in range(2)) + link(3, "BEFORE", 4)
+        line = "start or end, before all to its right; width says nothing"
+        self.assertEqual(self.texts(self.made(document(chain))), ["x", "x", "x", "event", line, "lasts"])
+        self.assertEqual(self.texts(self.made(document(free))), ["Nothing says when:", "x (i0)", "x (i1)", "x (i2)"])
+        ends = "Lines at the left third of a bar: its start; right: its end; middle: end to start."
+        self.assertIn(ends, " ".join(self.texts(self.made(mended()))))
+        self.assertNotIn("Lines", " ".join(self.texts(self.made(document(inner)))))
+
     def test_chosen_rows(self) -> None:
         picture = self.made(mended(), "d.svg", "--rows", "ei4,ei5,t1")
         self.assertLessEqual({"9 March 1998", "closed", "waited"}, set(self.texts(picture)))

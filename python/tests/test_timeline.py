@@ -185,10 +185,9 @@ class Rows(TimelineTest):
     def test_what_a_picture_means_is_said(self) -> None:
         said = " ".join(self.texts(self.drawn(document(event(1) + event(2) + event(3) + link(1, "BEFORE", 2) + link(1, "BEFORE", 3)))))
         for words in (
-            "Each is before the next one to the right",
-            "full: it lasts here in any case",
-            "hollow: it may last here",
-            "open: nothing",
+            "start or end, before all to its right; width says nothing",
+            "may last, up to a line only if it touches it",
+            "no limit",
         ):
             self.assertIn(words, said)
 
