@@ -14,6 +14,9 @@ from . import of_clash, of_timeline
 from .shapes import Figure
 
 UNITS = {"mm": 72 / 25.4, "cm": 720 / 25.4, "in": 72.0, "pt": 72 / 72.27, "bp": 1.0}
+PAGE = 257 * UNITS["mm"]
+"""How high a picture on a page of A4 can be."""
+
 NARROWEST, BROADEST = 40 * UNITS["mm"], 1000 * UNITS["mm"]
 WIDTH = re.compile(r"([0-9]{1,4}(?:\.[0-9]{1,3})?)(mm|cm|in|pt|bp)")
 
