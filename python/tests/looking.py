@@ -40,7 +40,7 @@ CONTRASTS = """(() => {
     if (!one.getClientRects().length || one.closest("button, input, .grid, defs, [aria-hidden=true]")) return;
     const hasText = [...one.childNodes].some((part) => part.nodeType === 3 && part.textContent.trim() !== "");
     if (hasText) found.add(`${hex(isDrawn ? style.fill : style.color)} ${ground(one)} ${one.className.baseVal ?? one.className}`);
-    if (!one.matches(".bar, .span, .edge, .anywhere, .link, .band, .arcs path")) return;
+    if (!one.matches(".link, .arcs path")) return;
     found.add(`${hex(style.stroke)} ${ground(one)} ${one.getAttribute("class")}`);
   });
   return [...found];

@@ -9,8 +9,12 @@ import re
 import xml.etree.ElementTree as ElementTree
 from collections.abc import Iterator
 from dataclasses import dataclass, field
+from itertools import pairwise
 
 SVG = "{http://www.w3.org/2000/svg}"
+Path = list[list[tuple[float, float]]]
+"""The parts of a path, each by its points."""
+
 NUMBER = re.compile(r"-?[\d.]+")
 SIGNS = {"before": "<", "never-after": "≤", "together": "=", "is before": "<", "is never after": "≤", "is": "="}
 SAID = re.compile(r"the (start|end) of .*?\(?([^ ()]+)\)? (is before|is never after|is) the (start|end) of .*?\(?([^ ()]+)\)?")
@@ -43,13 +47,26 @@ class Bar:
         return self.name + ("-" if share < 1 / 3 else "+" if share > 2 / 3 else whole)
 
 
+def path_of(way: str) -> Path:
+    """The parts of a path of straight lines, each by its points."""
+    found: Path = []
+    for step, *numbers in (re.findall(r"[MLHV]|-?[\d.]+", one) for one in re.findall("[MLHV][^MLHV]*", way)):
+        one = [float(number) for number in numbers]
+        last = found[-1][-1] if found else (0.0, 0.0)
+        point = (one[0], last[1]) if step == "H" else (last[0], one[0]) if step == "V" else (one[0], one[1])
+        found += [[]] if step == "M" else []
+        found[-1].append(point)
+    return found
+
+
 def sides_of(group: ElementTree.Element) -> set[str]:
     """The sides at which the frame of a bar is closed."""
-    frames = [path.attrib["d"] for path in group.iter(SVG + "path") if path.get("stroke") == "#595959"]
+    frames = [path_of(path.attrib["d"]) for path in group.iter(SVG + "path") if path.get("stroke") == "#595959"]
     if not frames:
         return {"left", "right"} if any(rect.get("stroke") for rect in group.iter(SVG + "rect")) else set()
-    found = {"left"} if re.match(r"M[\d.]+ [\d.]+H[\d.]+V", frames[0]) else set()
-    return found | ({"right"} if re.search(r"V[\d.]+$", frames[0]) else set())
+    upright = {one[0] for part in frames[0] for one, other in pairwise(part) if one[0] == other[0]}
+    xs = [x for part in frames[0] for x, _ in part]
+    return {side for side, x in (("left", min(xs)), ("right", max(xs))) if x in upright}
 
 
 @dataclass
@@ -68,8 +85,8 @@ class Picture:
 
     @classmethod
     def read(cls, source: str) -> Picture:
-        """What is seen in a file of SVG."""
-        root = ElementTree.fromstring(source.encode())
+        """What is seen in a file of SVG, or in the last picture of a page."""
+        *_, root = ElementTree.fromstring(source.encode()).iter(SVG + "svg")
         _, _, width, height = map(float, root.attrib["viewBox"].split(" "))
         found = cls(width, height)
         for group in root.iter(SVG + "g"):

@@ -147,8 +147,8 @@ ONE: tuple[tuple[str, int], ...] = (
     ("matrix --format csv", 171),
     ("seconds --format json", 346),
     ("open", 241),
-    ("timeline -o d.svg", 6700),
-    ("timeline --seconds -o d.html", 3000),
+    ("timeline -o d.svg", 1100),
+    ("timeline --seconds -o d.html", 1500),
     ("timeline --bare -o d.tex", 900),
 )
 """Commands about one document, and about how many functions each of them calls."""

@@ -109,6 +109,17 @@ class Timelines(FigureTest):
         stated = {(one.first, one.second) for one in picture.statements() if one.kind == "line before"}
         self.assertEqual(stated, {("ei2+", "ei1-"), ("ei7+", "ei8-"), ("ei5-", "ei6-")})
 
+    def test_the_legend_has_what_the_picture_has(self) -> None:
+        chain = "".join(map(event, range(3))) + link(0, "BEFORE", 1) + link(1, "BEFORE", 2)
+        free = "".join(map(event, range(3)))
+        inner = "".join(map(event, range(5))) + "".join(link(number, "BEFORE", number + 1) for number in range(2)) + link(3, "BEFORE", 4)
+        line = "start or end, before all to its right; width says nothing"
+        self.assertEqual(self.texts(self.made(document(chain))), ["x", "x", "x", "event", line, "lasts"])
+        self.assertEqual(self.texts(self.made(document(free))), ["Nothing says when:", "x (i0)", "x (i1)", "x (i2)"])
+        ends = "Lines at the left third of a bar: its start; right: its end; middle: end to start."
+        self.assertIn(ends, " ".join(self.texts(self.made(mended()))))
+        self.assertNotIn("Lines", " ".join(self.texts(self.made(document(inner)))))
+
     def test_chosen_rows(self) -> None:
         picture = self.made(mended(), "d.svg", "--rows", "ei4,ei5,t1")
         self.assertLessEqual({"9 March 1998", "closed", "waited"}, set(self.texts(picture)))
@@ -118,7 +129,36 @@ class Timelines(FigureTest):
         for name in ("d.svg", "d.html"):
             self.assertEqual(self.run_it("timeline", "d.xml", "--rows", "ei4,ei5,t1", "-o", name)[0], 0)
         status, lines, _ = self.run_it("timeline", "d.xml", "--rows", "ei4,nobody", "-o", "d.svg")
-        self.assertEqual((status, lines), (2, ["d.xml: not judged: no interval is called nobody, as --rows has it"]))
+        self.assertEqual((status, lines), (2, ["d.xml: not judged: no interval is called nobody"]))
+
+    def test_rows_around_one_and_between_two(self) -> None:
+        for words, names in (
+            (("--around", "ei5"), {"ei4", "ei5", "ei6", "ei9"}),
+            (("--around", "ei4"), {"t1", "ei3", "ei4"}),
+            (("--between", "t1", "t1"), {"t1", "ei3", "ei4"}),
+            (("--between", "ei4", "t2"), {"ei4", "t2", "ei5", "ei6", "ei9"}),
+            (("--rows", "t0", "--around", "ei4"), {"t0", "t1", "ei3", "ei4"}),
+        ):
+            picture = Picture.read(self.made(mended(), "d.svg", *words))
+            self.assertEqual({bar.name for bar in picture.bars} | picture.listed.keys(), names, words)
+        self.write("d.xml", mended())
+        lines = self.run_it("timeline", "d.xml", "--around", "ei4", "-o", "d.svg")[1]
+        self.assertEqual(lines, ["d.xml: drawn in d.svg: 3 intervals, 3 links, an axis of 6 places; 10 intervals left out"])
+
+    def test_how_much_a_page_has_room_for(self) -> None:
+        for count, most in ((34, 148), (60, 257), (300, None)):
+            days = [f'<TIMEX3 tid="t{day}" type="DATE" value="1998-01-{day + 1:02}"/>' for day in range(9)]
+            links = [link(number, "BEFORE", number + 2) for number in range(0, count - 2, 3)]
+            links += [
+                f'<TLINK eventInstanceID="i{number}" relatedToTime="t{8 * number // count}" relType="IS_INCLUDED"/>'
+                for number in range(0, count, 2)
+            ]
+            self.write("d.xml", document("".join(map(event, range(count))) + "".join(days + links)))
+            lines = self.run_it("timeline", "--bare", "d.xml", "-o", "d.svg")[1]
+            with open(self.path("d.svg"), encoding="utf-8") as file:
+                high = float(match_in(r' height="([\d.]+)mm"', file.read())[1])
+            said = f"d.xml: {high:.0f} mm are more than a page has: choose intervals by --rows ei1,t1 or --around ei1 or --between t1 t2"
+            self.assertEqual((most is None or high < most, lines[1:]), (True, [said] if most is None else []), (count, high))
 
     def test_without_the_words_around(self) -> None:
         self.write("d.xml", mended())

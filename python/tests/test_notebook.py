@@ -9,6 +9,7 @@ from pathlib import Path
 
 import tml
 from corpus import TML, TOP
+from picture_reader import Picture
 from tml import notebooks
 
 PORT, RATES = Path(TOP, "samples", "port.xml"), Path(TOP, "samples", "rates.xml")
@@ -56,9 +57,14 @@ class Notebook(unittest.TestCase):
                 self.assertIn("Timeline of ", texts(drawn))
                 self.assertNotIn("<script", drawn)
         drawn = tml.expect(tml.timeline(RATES, by=self.by), tml.Timeline)._repr_svg_()
-        self.assertIn("Wednesday (t1): ranks 0 to 4, exact 1998-01-07T00:00:00 to 1998-01-08T00:00:00", texts(drawn))
-        bars = [one for one in ElementTree.fromstring(drawn).iter() if one.tag.endswith("rect")]
-        self.assertEqual(len(bars), 5)
+        self.assertIn("1998-01-07T00:00:00 to 1998-01-08T00:00:00", texts(drawn))
+        seen = Picture.read(drawn)
+        self.assertEqual({bar.name for bar in seen.bars}, {"t0", "t1", "ei1", "ei2"})
+
+    def test_it_is_the_picture_of_the_command(self) -> None:
+        drawn = tml.expect(tml.solve(Path(TOP, "samples", "ferry.xml"), by=self.by), tml.Timeline)._repr_svg_()
+        kept = Path(TOP, "samples", "ferry.svg").read_text(encoding="utf-8")
+        self.assertEqual(drawn.partition("</title>")[2], kept.partition("</title>")[2].rstrip("\n"))
 
     def test_a_matrix_is_a_table(self) -> None:
         found = tml.expect(tml.matrix(RATES, by=self.by), tml.Matrix)

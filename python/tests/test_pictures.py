@@ -2,6 +2,7 @@
 
 from __future__ import annotations
 
+import importlib.util
 import itertools
 import random
 import re
@@ -9,9 +10,10 @@ import subprocess
 import unittest
 import xml.etree.ElementTree as ElementTree
 from collections import Counter
-from collections.abc import Iterator
+from collections.abc import Collection, Iterator, Mapping
 
 from corpus import TML, CorpusTest, by_library, needs_library, needs_matrix, text_at
+from picture_forms import by_pdf, by_tex
 from picture_reader import SVG, Picture, Statement
 from reference.relations import holds
 from tml.statuses import BASE_RELATIONS, RELATIONS
@@ -20,6 +22,7 @@ from tml_corpus.timeline.lettering import measured
 from tml_corpus.timeline.timeline import Choices, draw_document
 
 DOCUMENTS = 200
+needs_cairo = unittest.skipUnless(importlib.util.find_spec("cairosvg"), "no library cairosvg")
 
 KINDS = ("places in order", "places at once", "full from", "full to", "reaches from", "reaches to", "may reach", "open side",
          "mark begun", "mark not-ended", "line before", "line never-after", "line together", "listed", "in words")  # fmt: skip
@@ -118,14 +121,20 @@ def random_document(number: int) -> str:
 class Pictures(CorpusTest):
     """Pictures that are drawn in this process."""
 
-    FORMS = {"screen": None, "84mm": Paper(".svg", width_of("84mm")), "174mm": Paper(".svg", width_of("174mm"))}
+    FORMS: Mapping[str, Paper | None] = {
+        "screen": None, "84mm": Paper(".svg", width_of("84mm")), "174mm": Paper(".svg", width_of("174mm")), "page": None
+    }  # fmt: skip
 
     def drawn(self, content: str, form: str) -> str:
-        """The picture of a document in a form."""
-        found = draw_document(self.program, "d.xml", content.encode(), "d.svg", Choices(paper=self.FORMS[form]))
+        """The picture of a document in a form, as the reader takes it."""
+        return self.made(content, Choices(paper=self.FORMS[form]), "d.html" if form == "page" else "d.svg").decode()
+
+    def made(self, content: str, choices: Choices, name: str) -> bytes:
+        """The file of a picture."""
+        found = draw_document(self.program, "d.xml", content.encode(), name, choices)
         self.assertEqual(found.status, 0, found.text)
-        assert isinstance(found.picture, bytes)
-        return found.picture.decode()
+        assert found.picture is not None
+        return found.picture.encode() if isinstance(found.picture, str) else found.picture
 
     def setUp(self) -> None:
         super().setUp()
@@ -144,12 +153,27 @@ class Stated(Pictures):
     """That pictures state what follows, and nothing else."""
 
     def test_random_documents(self) -> None:
-        counts = {form: Counter[str]() for form in self.FORMS}
+        self.tried(self.FORMS)
+
+    @needs_cairo
+    def test_other_forms(self) -> None:
+        self.tried(("pdf", "tex"))
+
+    def drawn(self, content: str, form: str) -> str:
+        if form not in ("pdf", "tex"):
+            return super().drawn(content, form)
+        drawn = self.made(content, Choices(paper=Paper(f".{form}", width_of("84mm"))), f"d.{form}")
+        source = super().drawn(content, "84mm")
+        return by_pdf(source, drawn) if form == "pdf" else by_tex(source, drawn.decode())
+
+    def tried(self, forms: Collection[str]) -> None:
+        """Looks at the statements of all documents in some forms, each of which makes statements of all kinds."""
+        counts = {form: Counter[str]() for form in forms}
         decided = 0
         for number in range(DOCUMENTS):
             content = random_document(number)
             truth = self.truth(content)
-            for form in self.FORMS:
+            for form in forms:
                 stated = self.stated(content, form, truth, number)
                 counts[form].update(said.kind for said in stated)
             decided += len(truth.decided)

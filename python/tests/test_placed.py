@@ -233,8 +233,9 @@ class Pictures(CorpusTest):
 
     def test_pages(self) -> None:
         root = ElementTree.fromstring(self.drawn(bridge(), "d.html").split("\n", 1)[1].encode())
-        titles = [needed(title.text) for title in root.iter(SVG + "title")]
-        self.assertEqual(len(titles), 9)
+        titles = {needed(title.text) for title in root.iterfind(f".//{SVG}g/{SVG}title")}
+        rows = {title for one in root.iter(XHTML + "div") if (title := one.get("title"))}
+        self.assertEqual((len(rows), len(titles)), (9, 9))
         self.assertIn("more than 30 hours", "".join(titles))
         self.assertEqual(len(list(root.iter(XHTML + "script"))), 5)
 

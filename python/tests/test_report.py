@@ -243,7 +243,8 @@ class Strangers(ReportTest):
                 for one in self.root(name).iter():
                     self.assertFalse([key for key in one.keys() if key.startswith("on") or key == "style"], one.tag)
                     self.assertRegex(
-                        one.get("href", "#a"), r"^(#(word|bar|link)\d+|#a|\.\./index\.html|(\.\./)?report\.css|documents/[\w.-]+\.html)$"
+                        one.get("href", "#a"),
+                        r"^(#(word|bar|link)\d+|#a|#drawn|\.\./index\.html|(\.\./)?report\.css|documents/[\w.-]+\.html)$",
                     )
                 self.assertFalse(re.search(r"[\x00-\x09\x0b-\x1f\u202a-\u202e\u2066-\u2069]", page))
 
@@ -280,7 +281,7 @@ class InABrowser(ReportTest):
         self.made({"a.xml": self.sample("port.xml").replace("DURING", "AFTER")})
         with Browser() as browser:
             browser.open(self.path("pages/" + self.page_name("a.xml")))
-            marked = "[...document.querySelectorAll('.on')].map((one) => one.id).sort().join(' ')"
+            marked = "[...document.querySelectorAll('.on[id]')].map((one) => one.id).sort().join(' ')"
             word = browser.value("document.querySelector('#bar6').dataset.word")
             browser.click("#bar6")
             self.assertEqual(browser.value(marked), f"bar6 {word}")
@@ -379,11 +380,12 @@ class InABrowser(ReportTest):
         self.made({"a.xml": self.sample("rates.xml")})
         with Browser() as browser:
             browser.open(self.path("pages/" + self.page_name("a.xml")))
-            text = "getComputedStyle(document.querySelector('svg text')).fill"
-            colours = f"[getComputedStyle(document.body).backgroundColor, {text}].join(' ')"
+            seen = "getComputedStyle(document.querySelector('.picture')).filter"
+            colours = f"[getComputedStyle(document.body).backgroundColor, {seen}].join(' ')"
             light = browser.value(colours)
             browser.ask("Emulation.setEmulatedMedia", features=[{"name": "prefers-color-scheme", "value": "dark"}])
-            self.assertEqual((light, browser.value(colours)), ("rgb(255, 255, 255) rgb(17, 17, 17)", "rgb(21, 24, 28) rgb(232, 232, 232)"))
+            dark = "rgb(21, 24, 28) invert(1) hue-rotate(180deg)"
+            self.assertEqual((light, browser.value(colours)), ("rgb(255, 255, 255) none", dark))
 
 
 class Parts(unittest.TestCase):

@@ -4,13 +4,13 @@ import html.parser
 import json
 import os
 import re
-import shutil
-import subprocess
 import unittest
 import xml.etree.ElementTree as ElementTree
 from typing import Any
 
+from browser import needs_browser
 from corpus import EVENT, INSTANCE, TML, TOP, CorpusTest, document, needed, needs_matrix, text_at
+from looking import opened
 from picture_reader import Picture
 from tml.statuses import INTERVAL_LIMIT
 
@@ -27,6 +27,16 @@ def event(number: int, text: str = "x") -> str:
 def link(left: int, relation: str, right: int) -> str:
     """A TLINK between two instances."""
     return f'<TLINK eventInstanceID="i{left}" relatedToEventInstance="i{right}" relType="{relation}"/>\n'
+
+
+SEEN = {
+    "links": "[...document.querySelectorAll('#links div')].map((one) => one.textContent)",
+    "drawn": "[...document.querySelectorAll('.relation')].map((one) => one.textContent)",
+    "sequence": "[...document.querySelectorAll('.row')].map((one) => Number(one.id.slice(3)))",
+    "dim": "rows.map((row) => row.classList.contains('dim'))",
+    "faint": "rows.map((row, place) => bars[place].every((part) => part.classList.contains('dim')))",
+}
+"""What is looked at in a page: the panel, the relations of links, the order of the rows, and those that were not found."""
 
 
 class Parsed(html.parser.HTMLParser):
@@ -71,17 +81,36 @@ class TimelineTest(CorpusTest):
         return [text for *_, text in Picture.read(picture).texts]
 
     def titles(self, picture: str) -> list[str]:
-        """What is shown of each bar, or of each row of a page."""
-        return [title.text or "" for title in ElementTree.fromstring(picture.encode()).iterfind(f".//*/{SVG}title")]
+        """What is shown of each bar."""
+        return [title.text or "" for title in ElementTree.fromstring(picture.encode()).iterfind(f".//{SVG}g/{SVG}title")]
 
     def shown(self, content: str, *words: str) -> Any:
-        """What the panel of a page has after something is done to its rows."""
-        if shutil.which("node") is None:
-            self.skipTest("no program node")
+        """What the panel of a page has after something is done: `focus:1` to the second row, `Enter:1` a key there, `search:word`.
+
+        `see:` answers something else, by the names of `SEEN`.
+        """
         self.drawn(content, "d.html")
-        script = os.path.join(TOP, "python", "tests", "page.js")
-        done = subprocess.run(["node", script, self.path("d.html"), *words], capture_output=True, text=True, check=True)
-        return json.loads(done.stdout)
+        with opened() as browser:
+            browser.open(self.path("d.html"))
+            found = [self.done(browser, *word.split(":")) for word in words]
+            self.assertEqual(browser.said, [])
+        return found
+
+    def done(self, browser: Any, kind: str, place: str) -> Any:
+        """What is seen after something is done."""
+        if kind == "see":
+            return browser.value(SEEN[place])
+        one = f"document.querySelectorAll('.row')[{place}]" if place.isdigit() else f"document.getElementById({place!r})"
+        if kind == "search":
+            browser.value(f"search.value = {place!r}")
+            one, kind = "search", "input"
+        if kind == "focus":
+            browser.value(f"{one}.focus()")
+        elif kind in ("click", "pointermove", "input"):
+            browser.value(f"{one}.dispatchEvent(new Event({kind!r}))")
+        else:
+            browser.value(f"{one}.dispatchEvent(new KeyboardEvent('keydown', {{ key: {kind!r} }}))")
+        return browser.value(SEEN["links"])
 
     def refused(self, status: int, content: str, *words: str, tml: str = TML) -> list[str]:
         """What is printed of a document that is not drawn; there is no file then, and nothing is left of one."""
@@ -156,10 +185,9 @@ class Rows(TimelineTest):
     def test_what_a_picture_means_is_said(self) -> None:
         said = " ".join(self.texts(self.drawn(document(event(1) + event(2) + event(3) + link(1, "BEFORE", 2) + link(1, "BEFORE", 3)))))
         for words in (
-            "Each is before the next one to the right",
-            "full: it lasts here in any case",
-            "hollow: it may last here",
-            "open: nothing",
+            "start or end, before all to its right; width says nothing",
+            "may last, up to a line only if it touches it",
+            "no limit",
         ):
             self.assertIn(words, said)
 
@@ -201,9 +229,8 @@ class Strangers(TimelineTest):
             self.assertEqual((parsed.open, parsed.wrong), ([], []))
             self.assertEqual(parsed.names.count("script"), 5)
             self.assertEqual([tag.tag for tag in root], [XHTML + "head", XHTML + "body"])
-            self.assertEqual(len([one for one in root.iter(SVG + "svg") if one.get("class") == "bars"]), len(self.titles(page)))
-            for name in ("src", "href"):
-                self.assertFalse([tag for tag in root.iter() if tag.get(name)])
+            self.assertEqual([one.get("id") for one in root.iter(SVG + "svg")], [None, "drawn"])
+            self.assertEqual([tag.get(name) for tag in root.iter() for name in ("src", "href") if tag.get(name)], ["#drawn"])
             self.assertIn("default-src 'none'", page)
 
     @needs_matrix
@@ -211,7 +238,7 @@ class Strangers(TimelineTest):
         links = link(3, "BEFORE", 1) + link(2, "AFTER", 1) + link(3, "IDENTITY", 3)
         page = self.drawn(document(event(1) + event(2) + event(3) + links), "d.html")
         [partners] = re.findall(r'<script type="application/json" id="partners">(.*?)</script>', page)
-        rows = [title.split(" ")[1] for title in self.titles(page)]
+        rows = [f"({one.get('data-interval')}):" for one in ElementTree.fromstring(page.encode()).iter(XHTML + "div") if one.get("title")]
         self.assertEqual((rows, partners), (["(i3):", "(i1):", "(i2):"], "[[1],[0,2],[1]]"))
 
     def test_long_texts_are_cut(self) -> None:
@@ -230,6 +257,7 @@ class Strangers(TimelineTest):
         self.assertEqual(heading, 'Timeline of a<&">é\ufffd .xml')
 
 
+@needs_browser
 @needs_matrix
 class Open(TimelineTest):
     """What a page shows of what is open."""
@@ -248,7 +276,7 @@ class Open(TimelineTest):
 
     def test_a_row_is_kept_by_a_click_and_by_a_key(self) -> None:
         for pin in ("click", "Enter", " "):
-            panels = self.shown(self.DURING, "focus:0", f"{pin}:0", "focus:1", "pointermove:2", f"{pin}:0", "focus:1")
+            panels = self.shown(self.DURING, "focus:0", f"{pin}:0", "focus:1", "pointermove:2", f"{pin}:0", "pointermove:1")
             self.assertEqual([lines[0][:3] for lines in panels], ["a<b"] * 5 + ["& ("])
 
     def test_arrow_keys_go_from_row_to_row(self) -> None:

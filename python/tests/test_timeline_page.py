@@ -9,13 +9,14 @@ import shutil
 import subprocess
 import unicodedata
 import unittest
-from typing import Any
 
 from browser import needs_browser
 from corpus import TOP, CorpusTest, document, needs_matrix
 from looking import contrasts, darkened, opened, resized
-from tml.statuses import INTERVAL_LIMIT
 from tml_corpus.timeline.lettering import measured
+
+SCROLLED = 1500
+"""How far a page is scrolled, in pixels."""
 
 
 def event(number: int, text: str = "x") -> str:
@@ -46,20 +47,22 @@ class PageTest(CorpusTest):
 
 @needs_browser
 class InABrowser(PageTest):
-    def test_axis_and_names_stay_in_sight(self) -> None:
-        events = "".join(event(number) for number in range(INTERVAL_LIMIT))
-        page = self.made(document(events + "".join(link(number, "BEFORE", number + 1) for number in range(INTERVAL_LIMIT - 1))))
+    def test_the_axis_stays_in_sight(self) -> None:
+        events, date = "".join(event(number) for number in range(300)), '<TIMEX3 tid="t" type="DATE" value="1998-01-08"/>'
+        links = [f'<TLINK eventInstanceID="i{number}" relatedToTime="t" relType="IS_INCLUDED"/>' for number in range(300)]
+        page = self.made(document(events + date + "".join(links)))
         with opened() as browser:
             browser.open(page)
-            browser.value("document.querySelector('main').scrollTo(5000, 12000)")
             place = "(() => { const box = document.querySelector(SELECTOR).getBoundingClientRect(); return [box.left, box.top]; })()"
             main = browser.value(place.replace("SELECTOR", "'main'"))
-            self.assertEqual(browser.value(place.replace("SELECTOR", "'.head'"))[1], main[1])
-            label = browser.value(place.replace("SELECTOR", "'#row560 .label'"))
-            self.assertEqual(label[0], main[0])
-            self.assertTrue(browser.value("document.querySelector('main').scrollTop") > 9000)
-            there = "document.elementFromPoint(20, document.querySelector('#row560').getBoundingClientRect().top + 11)"
-            self.assertIn("(i560)", browser.value(f"{there}.closest('.label').textContent"))
+            browser.value(f"document.querySelector('main').scrollTo(5000, {SCROLLED})")
+            self.assertGreater(browser.value("document.querySelector('main').scrollTop"), 0.9 * SCROLLED)
+            self.assertEqual(browser.value(place.replace("SELECTOR", "'.axis svg'"))[1], main[1])
+            # The copy of the axis lies where the picture has it: a date that both have begins at the same position.
+            copied = browser.value(
+                "document.querySelector('.axis use').getBBox().width / document.querySelector('.axis svg').viewBox.baseVal.width"
+            )
+            self.assertAlmostEqual(copied, 1, delta=0.05)
             self.assertEqual(browser.said, [])
 
     def test_one_stop_of_the_tabulator_and_arrow_keys(self) -> None:
@@ -80,6 +83,7 @@ class InABrowser(PageTest):
             said = [(node["role"]["value"], node.get("name", {}).get("value", "")) for node in tree if not node.get("ignored")]
             self.assertIn(("main", "Timeline of d.xml"), said)
             self.assertIn(("button", "waited (ei5): event"), said)
+            self.assertIn(("image", "Timeline of d.xml"), said)
             self.assertEqual([name for role, name in said if role in ("button", "main", "textbox", "group") and not name], [])
 
     def test_contrast(self) -> None:
@@ -100,7 +104,7 @@ class InABrowser(PageTest):
         with opened() as browser:
             browser.open(self.made(document(event(1, "\u05d0\u05d1\u05d2") + event(2) + link(1, "BEFORE", 2))))
             edge = "(() => { const box = document.querySelector('SELECTOR').getBoundingClientRect(); return [box.left, box.right]; })()"
-            text, named = (browser.value(edge.replace("SELECTOR", one)) for one in (".label bdi", ".label .name"))
+            text, named = (browser.value(edge.replace("SELECTOR", one)) for one in ("#row0 .label bdi", "#row0 .label .name"))
             self.assertLessEqual(text[1], named[0] + 0.5)
             self.assertEqual(browser.value("document.querySelector('.label .name').textContent"), "(i1)")
 
@@ -116,7 +120,7 @@ class InABrowser(PageTest):
         pages = [lines for one in text.split("\f") if (lines := [line.strip() for line in one.splitlines() if line.strip()])]
         self.assertGreater(len(pages), 1)
         for lines in pages:
-            self.assertFalse(re.match("Order not known|Timeline of|How to read", lines[-1]), lines[-1])
+            self.assertFalse(re.match("Nothing says when|Timeline of", lines[-1]), lines[-1])
 
     def test_what_is_measured_has_room(self) -> None:
         texts = ["waited", "WWWWMMMM", "日本語日本語", "नमस्ते दुनिया", "สวัสดีชาวโลก", "မြန်မာဘာသာ", "தமிழ்மொழி", "മലയാളം"]
@@ -133,8 +137,10 @@ class InABrowser(PageTest):
         with opened() as browser:
             resized(browser, 400)
             browser.open(self.made(mended()))
-            bars: Any = browser.value("document.querySelector('#row0 .bars').getBoundingClientRect().left")
-            self.assertLess(bars, 250)
+            box = "document.querySelector('#row6 .around').getBoundingClientRect()"
+            self.assertIn("while it was closed", browser.value("document.querySelector('#row6 .around').innerText"))
+            self.assertLessEqual(browser.value(f"{box}.right"), 400)
+            self.assertGreater(browser.value(f"{box}.width"), 150)
             self.assertLessEqual(browser.value("document.documentElement.scrollWidth"), 400)
 
 
@@ -144,20 +150,15 @@ def placed(text: str) -> str:
 
 
 class Pictures(PageTest):
-    def test_dates_are_on_the_axis_by_their_names(self) -> None:
-        with open(self.made(mended()), encoding="utf-8") as file:
-            picture = file.read()
-        line = r'<path class="band" d="M([\d.]+) [\d.]+H([\d.]+)"/>'
-        bands = re.findall(line + r'<text class="small" x="([\d.]+)" y="[\d.]+">([^<]*)<', picture)
-        self.assertEqual([text for *_, text in bands], ["9 March 1998", "11 March 1998", "12 March 1998"])
-        self.assertTrue(all(left == x and float(left) < float(right) for left, right, x, _ in bands))
-
-    def test_hollow_bars_of_a_page_have_a_frame(self) -> None:
-        with open(self.made(mended()), encoding="utf-8") as file:
-            picture = file.read()
-        self.assertEqual(picture.count('class="hollow"'), picture.count('class="frame"'))
-        self.assertGreater(picture.count('class="hollow"'), 2)
-        self.assertGreater(picture.count('class="bar"'), 5)
+    def test_the_picture_of_a_page_is_that_of_the_file(self) -> None:
+        for words in ((), ("--text-order",), ("--seconds",)):
+            with open(self.made(mended(), "d.html", *words), encoding="utf-8") as page:
+                with open(self.made(mended(), "d.svg", *words), encoding="utf-8") as file:
+                    drawn = [
+                        text[text.index('viewBox="0 0 600', text.rindex("<svg")) : text.index("</svg>", text.rindex("<svg"))]
+                        for text in (page.read(), file.read())
+                    ]
+            self.assertEqual(*drawn)
 
 
 if __name__ == "__main__":

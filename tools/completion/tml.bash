@@ -78,7 +78,7 @@ _tml_corpus() {
         fix) options+=(--diff --write --unsafe --from --glob "${asked[@]}") ;;
         tags) options+=(--glob "${asked[@]}") ;;
         clashes) options+=(--evidence --repair "${shared[@]}") ;;
-        timeline) options+=(--output -o --touching --seconds --asserted --text-order --bare --width --rows --no-context --config --tml) ;;
+        timeline) options+=(--output -o --touching --seconds --asserted --text-order --bare --width --rows --around --between --no-context --config --tml) ;;
         matrix | seconds) options+=(--format --touching --config --tml) ;;
         open) options+=(--limit --pairs --touching --config --tml --jobs) ;;
         agree) options+=(--links --format --touching --glob "${asked[@]}" --cluster) ;;

@@ -156,6 +156,8 @@ def escaped(text: str) -> str:
 
 def harmless(text: str) -> str:
     """A text with its lines, of which all can be printed and nothing turns it around."""
+    if text.replace("\n", "").isprintable():
+        return text
     return "".join(map(printed, text.replace("\r\n", "\n").replace("\r", "\n")))
 
 

@@ -2,26 +2,17 @@
 
 from __future__ import annotations
 
+import importlib
 from collections.abc import Iterable, Mapping
-from itertools import islice
 
 from .markup import Child, Markup, element, lined
 from .matrices import Matrix
-from .results import Clash, Fault, Row, Timeline
+from .results import Clash, Fault, Timeline
 from .saying import counted, cut_short
 from .sentences import Wording
 
 MOST_INTERVALS = 40
 """How many intervals of a matrix are shown."""
-
-MOST_ROWS = 200
-"""How many rows of a timeline are drawn."""
-
-LEFT, HEIGHT, BAR, RANK = 300, 22, 12, 34
-"""Of a picture in pixels: the room for words, the height of a row and of its bar, and the width between two ranks."""
-
-COLOURS = {"event": "#0072b2", "time": "#e69f00"}
-"""Colours that differ for the colour-blind too."""
 
 CELL = "border:1px solid #8886;padding:2px 6px;text-align:left"
 
@@ -76,42 +67,9 @@ def cell_of(matrix: Matrix, row: int, column: int) -> Child:
 
 
 def svg_of_timeline(timeline: Timeline) -> str:
-    """A timeline: a bar from the rank of its start to that of its end for each interval, in the order of the ranks."""
-    rows = timeline.rows or tuple(
-        sorted((Row(name, "", "event", *ranks) for name, ranks in timeline.ranks.items()), key=lambda row: (row.start, row.end))
-    )
-    shown, last = list(islice(rows, MOST_ROWS)), max((row.end for row in rows), default=0)
-    width, height = LEFT + RANK * (last + 2), HEIGHT * (len(shown) + 2)
-    left_out = f"; {counted(len(rows) - len(shown), 'interval')} not shown" if len(rows) > len(shown) else ""
-    title = f"Timeline of {counted(len(rows), 'interval')}: ranks of starts and ends, of which only the order counts{left_out}"
-    return element(
-        "svg",
-        element("title", title),
-        element("rect", width="100%", height="100%", fill="#fff"),
-        lined(*(rank_line(rank, height) for rank in range(last + 1))),
-        lined(*(row_of(row, place) for place, row in enumerate(shown, 1))),
-        element("text", title, x=8, y=height - 7, fill="#555"),
-        role="img",
-        width=width,
-        height=height,
-        viewBox=f"0 0 {width} {height}",
-        font_family="sans-serif",
-        font_size=12,
-    ).text
+    """A timeline as `tml-corpus timeline` draws it: what is so in every timeline that fits the document."""
+    from .asking import default_answerer
 
-
-def rank_line(rank: int, height: int) -> Markup:
-    """The line of a rank."""
-    x = LEFT + RANK * rank
-    return element("line", x1=x, y1=HEIGHT, x2=x, y2=height - HEIGHT, stroke="#ddd")
-
-
-def row_of(row: Row, place: int) -> Child:
-    """One row: its words and name, and its bar, which says more where one points at it."""
-    label = f"{row.text} ({row.name})" if row.text else row.name
-    date = "" if row.date is None or row.date.kind == "free" else f", {row.date.kind} {row.date.start_text} to {row.date.end_text}"
-    hint, y = f"{cut_short(label, 200)}: ranks {row.start} to {row.end}{date}", HEIGHT * place
-    words = element("text", cut_short(label), x=LEFT - 10, y=y + 15, text_anchor="end", fill="#111", unicode_bidi="isolate")
-    left, width = LEFT + RANK * row.start, RANK * (row.end - row.start)
-    bar = element("rect", element("title", hint), x=left, y=y + (HEIGHT - BAR) // 2, width=width, height=BAR, rx=2, fill=COLOURS[row.kind])
-    return [words, bar]
+    # By its name, so that who checks the types of a program with this package does not check those of the companions.
+    drawing = importlib.import_module("tml_corpus.timeline.in_notebooks")
+    return str(drawing.picture(timeline.content, timeline.ranks.values(), timeline.by or default_answerer()))

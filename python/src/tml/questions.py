@@ -119,11 +119,9 @@ def dates(document: File, by: Answerer | None = None) -> dict[str, Date] | Fault
 
 def solve(document: File, by: Answerer | None = None) -> Timeline | Clash | Fault | TooLong:
     """The least timeline that fits a document, with a rank for each start and end; or a minimal clash where none does."""
-    return told(
-        answer_to(by, "solve", document),
-        clash_of,
-        lambda answer: read_timeline(answer.text, accepted_of(answer).intervals, answer.files[0]),
-    )
+    answer = answer_to(by, "solve", document)
+    found = clash_of(answer)
+    return read_timeline(answer.text, accepted_of(answer).intervals, answer.files[0], by) if found is None else found
 
 
 def clash(document: File, by: Answerer | None = None) -> Clash | Fault | TooLong | None:
@@ -170,7 +168,7 @@ def timeline(document: File, by: Answerer | None = None) -> Timeline | Clash | F
     model, said = read(document if isinstance(document, Document) else content, answer.by), dates(content, answer.by)
     assert isinstance(model, Document)
     assert isinstance(said, dict)
-    found = read_timeline(answer.text, tuple(model.intervals), content)
+    found = read_timeline(answer.text, tuple(model.intervals), content, by)
     rows = (
         Row(name, one.text or one.attributes.get("value", ""), "time" if name in said else "event", *found.ranks[name], said.get(name))
         for name, one in model.intervals.items()

@@ -5,7 +5,7 @@ from __future__ import annotations
 import re
 from collections.abc import Iterator, Sequence
 from itertools import islice
-from typing import Any
+from typing import TYPE_CHECKING, Any
 
 from .lines import Evidence, lines_of, step_of
 from .misuse import ByName
@@ -33,6 +33,9 @@ from .results import (
     Timeline,
     Unit,
 )
+
+if TYPE_CHECKING:
+    from .asking import Answerer
 
 TOO_LONG = {"DOC": "document", "KEY": "key", "EVIDENCE": "evidence", "SECOND": "second", "SECONDS": "seconds"}
 """The files as the text names them that says which one is too long."""
@@ -137,9 +140,9 @@ def read_relations(text: bytes) -> list[Relation]:
     return [Relation(first, relation, second) for first, relation, second in lines_of(text)]
 
 
-def read_timeline(text: bytes, names: Sequence[str], document: bytes) -> Timeline:
-    """A timeline of intervals with these names, as it was printed as evidence."""
-    return Timeline(Evidence(text).ranks(names), text, content=document)
+def read_timeline(text: bytes, names: Sequence[str], document: bytes, by: Answerer | None) -> Timeline:
+    """A timeline of intervals with these names, as it was printed as evidence for who was asked."""
+    return Timeline(Evidence(text).ranks(names), text, content=document, by=by)
 
 
 def cited(text: bytes) -> list[int]:

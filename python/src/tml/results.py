@@ -15,6 +15,7 @@ from .lines import Evidence, Ranks, Step
 from .saying import cut_short
 
 if TYPE_CHECKING:
+    from .asking import Answerer
     from .explaining.telling import Told
 
 __all__ = [
@@ -248,6 +249,10 @@ class Timeline(Result):
     evidence: bytes
     rows: tuple[Row, ...] = field(default=(), compare=False)
     content: bytes = field(default=b"", compare=False, metadata=NOT_SHOWN)
+    """The bytes of the document."""
+
+    by: Answerer | None = field(default=None, compare=False, metadata=NOT_SHOWN)
+    """Who was asked for it, if somebody was named."""
 
     def _repr_svg_(self) -> str:
         from .notebooks import svg_of_timeline

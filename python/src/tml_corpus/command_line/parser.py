@@ -109,6 +109,9 @@ def timeline_words(words: Parser) -> None:
     words.add_argument("--bare", action="store_true", help=bare)
     words.add_argument("--width", type=figure_width, metavar="WIDTH", help="the width of such a picture, as 84mm or 3.3in (84mm)")
     words.add_argument("--rows", metavar="NAMES", help="draw these intervals alone, as ei1,ei2,t1")
+    words.add_argument("--around", metavar="NAME", help="draw this interval alone, with those that say when it is")
+    between = "draw alone what lies from the start of the one interval to the end of the other"
+    words.add_argument("--between", nargs=2, metavar=("FIRST", "LAST"), help=between)
     without = "leave out the words around events"
     words.add_argument("--no-context", action="store_false", dest="context", help=without)
     shared_words(words)

@@ -31,6 +31,8 @@ class Options(NamedTuple):
     bare: bool
     width: float | None
     rows: str | None
+    around: str | None
+    between: list[str] | None
     context: bool
 
 
@@ -39,8 +41,16 @@ def command(run: Run, options: Options) -> int:
     signal.signal(signal.SIGINT, signal.default_int_handler)
     if run.is_interrupted():
         raise KeyboardInterrupt
-    rows = tuple(name for name in (options.rows or "").split(",") if name)
-    choices = Choices(options.touching, options.asserted, options.text_order, rows, options.context, paper_of(options))
+    choices = Choices(
+        touching=options.touching,
+        asserted=options.asserted,
+        in_text_order=options.text_order,
+        rows=tuple(name for name in (options.rows or "").split(",") if name),
+        around=options.around or "",
+        between=tuple(options.between or ()),
+        context=options.context,
+        paper=paper_of(options),
+    )
     work = partial(draw_placing if options.seconds else draw, run.program, target=options.output, choices=choices)
     drawn = attempted(work, options.document, lambda path, problem: undrawn(not_judged(path, problem)))
     if drawn.picture is not None:

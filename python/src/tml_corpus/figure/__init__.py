@@ -1,1 +1,1 @@
-"""`timeline --bare`: a picture for a paper, of a timeline or of a clash."""
+"""Pictures of a timeline, a placing or a clash, from one model and one layout, and what is written of them."""

@@ -14,6 +14,9 @@ from . import of_clash, of_timeline
 from .shapes import Figure
 
 UNITS = {"mm": 72 / 25.4, "cm": 720 / 25.4, "in": 72.0, "pt": 72 / 72.27, "bp": 1.0}
+PAGE = 257 * UNITS["mm"]
+"""How high a picture on a page of A4 can be."""
+
 NARROWEST, BROADEST = 40 * UNITS["mm"], 1000 * UNITS["mm"]
 WIDTH = re.compile(r"([0-9]{1,4}(?:\.[0-9]{1,3})?)(mm|cm|in|pt|bp)")
 
@@ -31,21 +34,6 @@ FORMS = (".svg", ".pdf", ".tex")
 """The forms, by the end of the file's name."""
 
 
-def written(figure: Figure, form: str, is_for_screen: bool = False) -> bytes:
-    """A picture as a file of a form."""
-    if form == ".pdf":
-        from .pdf_form import pdf
-
-        return pdf(figure)
-    if form == ".tex":
-        from .tikz_form import tikz
-
-        return tikz(figure).encode("utf-8")
-    from .svg_form import on_screen, svg
-
-    return (on_screen if is_for_screen else svg)(figure).encode("utf-8")
-
-
 @dataclass(frozen=True)
 class Paper:
     """The form in which a picture is wanted, its width in points, and whether it is for a screen: of twice the size, and with titles."""
@@ -58,17 +46,31 @@ class Paper:
 SCREEN = Paper(".svg", 600.0, is_for_screen=True)
 
 
-def timeline_picture(timeline: Timeline, paper: Paper, one_each: bool) -> bytes:
+def written(figure: Figure, paper: Paper) -> bytes:
+    """A picture as a file."""
+    if paper.form == ".pdf":
+        from .pdf_form import pdf
+
+        return pdf(figure)
+    if paper.form == ".tex":
+        from .tikz_form import tikz
+
+        return tikz(figure).encode("utf-8")
+    from .svg_form import svg
+
+    return svg(figure, paper.is_for_screen).encode("utf-8")
+
+
+def timeline_figure(timeline: Timeline, paper: Paper, one_each: bool) -> Figure:
     """The picture of a timeline, perhaps with a lane for each bar."""
-    figure = of_timeline.figure_of(timeline, paper.width, one_each=one_each, with_said=paper.is_for_screen)
-    return written(figure, paper.form, paper.is_for_screen)
+    return of_timeline.figure_of(timeline, paper.width, one_each=one_each, with_said=paper.is_for_screen)
 
 
-def placing_picture(timeline: Timeline, one_each: bool) -> bytes:
+def placing_figure(timeline: Timeline, one_each: bool) -> Figure:
     """The picture of a placing in seconds, for a screen."""
     from . import of_placing
 
-    return written(of_placing.figure_of(timeline, SCREEN.width, one_each), SCREEN.form, True)
+    return of_placing.figure_of(timeline, SCREEN.width, one_each)
 
 
 def clash_picture(program: Program, title: str, document: bytes, clash: PlacedClash, paper: Paper) -> bytes:
@@ -76,4 +78,4 @@ def clash_picture(program: Program, title: str, document: bytes, clash: PlacedCl
     if not clash.walk:
         raise CannotRun("tml printed no walk of this clash")
     wording = Wording(program, document)
-    return written(of_clash.figure_of(title, wording, steps_in_words(wording, clash.walk), paper.width), paper.form)
+    return written(of_clash.figure_of(title, wording, steps_in_words(wording, clash.walk), paper.width), paper)

@@ -2,36 +2,43 @@
 
 from __future__ import annotations
 
-from collections.abc import Sequence
+from collections.abc import Callable, Sequence
 
 Stretch = tuple[float, float]
+Needs = dict[int, list[tuple[int, float]]]
+"""Of each place from which earlier ones on so much room is needed."""
 
 
 def spread(needs: Sequence[tuple[int, int, float]], count: int, width: float) -> list[float]:
     """The positions of so many places in a width. Between some two of them so much room is needed, of which each gets the same share."""
     if count < 2:
         return [0.0] * count
-    even, low, high = width / (count - 1), 0.0, 1.0
-    for _ in range(20):
-        middle = (low + high) / 2
-        low, high = (middle, high) if spaced(needs, count, even / 2, middle)[-1] <= width else (low, middle)
-    # What room is left widens the narrowest stretches first: `gap` is as broad as it can be.
-    gap, most = even / 2, even
-    for _ in range(20):
-        middle = (gap + most) / 2
-        gap, most = (middle, most) if spaced(needs, count, middle, low)[-1] <= width else (gap, middle)
-    found = spaced(needs, count, gap, low)
+    even = width / (count - 1)
+    by_end: Needs = {}
+    for start, end, need in needs:
+        by_end.setdefault(end, []).append((start, need))
+    share = greatest(0.0, 1.0, lambda share: spaced(by_end, count, even / 2, share)[-1] <= width)
+    # What room is left widens the narrowest stretches first.
+    gap = greatest(even / 2, even, lambda gap: spaced(by_end, count, gap, share)[-1] <= width)
+    found = spaced(by_end, count, gap, share)
     return [place * width / found[-1] for place in found]
 
 
-def spaced(needs: Sequence[tuple[int, int, float]], count: int, gap: float, share: float) -> list[float]:
+def greatest(low: float, high: float, is_so: Callable[[float], bool]) -> float:
+    """About the greatest of the numbers between two of which something is so. It is so of the least one, and of all up to some number."""
+    if is_so(high):
+        return high
+    for _ in range(16):
+        middle = (low + high) / 2
+        low, high = (middle, high) if is_so(middle) else (low, middle)
+    return low
+
+
+def spaced(needs: Needs, count: int, gap: float, share: float) -> list[float]:
     """The positions as far left as possible, with a gap between each two."""
-    by_end: dict[int, list[tuple[int, float]]] = {}
-    for start, end, need in needs:
-        by_end.setdefault(end, []).append((start, need * share))
     places = [0.0]
     for number in range(1, count):
-        wanted = [(places[start] + need, start) for start, need in by_end.get(number, ())]
+        wanted = [(places[start] + need * share, start) for start, need in needs.get(number, ())]
         nearest = places[-1] + gap
         # A stretch that needs more room gets it at all its places alike.
         for position, first in wanted:

@@ -16,7 +16,7 @@ def figure_of(timeline: Timeline, width: float, one_each: bool) -> Figure:
     drawing = Drawing(timeline, width, [], {number: axis.extent(row) for number, row in rows.items()}, rows, True)
     top = EDGE + LABEL + 4
     bottom = put_bars(drawing, top, one_each)
-    figure = Figure(width, f"{axis.title}{plain(timeline.title)}")
+    figure = Figure(width, f"{axis.title}{plain(timeline.title)}", axis=top)
     for x, text in axis.marks() if rows else []:
         figure.shapes.append(Line(((x, top), (x, bottom)), 0.5, LIGHT))
         figure.shapes.append(

@@ -13,25 +13,26 @@ from __future__ import annotations
 import re
 from collections.abc import Collection, Mapping, Sequence
 from dataclasses import dataclass, field, replace
+from graphlib import TopologicalSorter
 from itertools import pairwise
 
 from ..document.date_words import MONTHS, stretch
 from ..timeline.extents import Extent, Positions
-from ..timeline.known import Order
+from ..timeline.known import Known, Order
 from ..timeline.lettering import fitted, in_lines, measured, plain
 from ..timeline.rows import NO_INTERVAL, Row, Timeline
 from ..timeline.sentences import named, order_said, place_called
 from .layout import packed, spread
 from .shapes import BLACK, GREY, LABEL, SMALL, Box, Figure, Line, Shape, Text
 
-EDGE, BAND, BAR, PITCH = 3.0, 10.0, 10.0, 15.0
-"""What is free at the edges; the heights of a date and of a bar; and how far apart two lanes are."""
+EDGE, BAND, BAR, PITCH, LEADING = 3.0, 10.0, 10.0, 15.0, LABEL + 2.2
+"""What is free at the edges; the heights of a date and of a bar; and how far apart two lanes are, and two lines of text."""
 
 PALE, LIGHT = "#D5D5D5", "#A8A8A8"
 
 KINDS = {
     "event": "event",
-    "unasserted": "event not asserted",
+    "unasserted": "not asserted",
     "exact": "date",
     "within": "time within a date",
     "free": "time without a date",
@@ -45,6 +46,9 @@ LINES = {
     "=": ("together", Line((), 1.7, GREY)),
 }
 """Of each sign of an order the class and the look of its line."""
+
+LINES_SAID = ("before", "before or at once", "at once")
+"""What the lines mean."""
 
 
 @dataclass
@@ -84,7 +88,7 @@ def figure_of(timeline: Timeline, width: float, *, one_each: bool = False, with_
     put_places(drawing, every, top, bottom)
     for order in known.orders:
         drawing.lines += line_of(drawing, order)
-    figure = Figure(width, f"Timeline of {plain(timeline.title)}", said=described(timeline, every))
+    figure = Figure(width, f"Timeline of {plain(timeline.title)}", said=described(timeline, every), axis=top + 4)
     figure.shapes = [*drawing.behind, *drawing.lines, *drawing.front]
     if not timeline.rows:
         bottom = put_lines(figure, EDGE, EDGE + LABEL, NO_INTERVAL)
@@ -222,9 +226,8 @@ def put_places(drawing: Drawing, every: dict[int, Row], top: float, bottom: floa
 def put_bars(drawing: Drawing, top: float, one_each: bool) -> float:
     """The bars in lanes below a height, each with its label in it, or next to it. Answers where they end."""
     known = drawing.timeline.known
-    numbers = [number for number in drawing.rows if number not in drawing.bars]
-    if not one_each:
-        numbers = in_order(numbers, known.orders)
+    before = ended_before([number for number in drawing.rows if number not in drawing.bars], known.orders)
+    numbers = list(before) if one_each else in_order(before)
     extents, labels = [], []
     for number in numbers:
         outer = drawing.extents[number].outer
@@ -232,10 +235,7 @@ def put_bars(drawing: Drawing, top: float, one_each: bool) -> float:
         labels.append((text, begin))
         extents.append((min(outer[0], begin) - 1, max(outer[1], begin + measured(text, LABEL)) + 1))
     places = {number: place for place, number in enumerate(numbers)}
-    below: list[list[int]] = [[] for _ in numbers]
-    for order in known.orders:
-        if is_whole(order) and order.first // 2 in places and order.second // 2 in places:
-            below[places[order.second // 2]].append(places[order.first // 2])
+    below = [[places[other] for other in before[number]] for number in numbers]
     lanes = list(range(len(numbers))) if one_each else packed(extents, below)
     first = top + 7
     for number, lane, (text, begin) in zip(numbers, lanes, labels, strict=True):
@@ -243,16 +243,26 @@ def put_bars(drawing: Drawing, top: float, one_each: bool) -> float:
     return first + (max(lanes, default=-1) + 1) * PITCH - (PITCH - BAR) + 4
 
 
-def in_order(numbers: Sequence[int], orders: Collection[Order]) -> list[int]:
-    """Intervals so that each comes after those that end before it starts, as far as orders say."""
-    waiting = {
-        number: {one.first // 2 for one in orders if is_whole(one) and one.second // 2 == number} & set(numbers) for number in numbers
-    }
+def ended_before(numbers: Sequence[int], orders: Collection[Order]) -> dict[int, set[int]]:
+    """Of each of some intervals those that end before it starts, as far as orders say."""
+    found: dict[int, set[int]] = {number: set() for number in numbers}
+    for one in orders:
+        first, second = one.first // 2, one.second // 2
+        if is_whole(one) and first in found and second in found:
+            found[second].add(first)
+    return found
+
+
+def in_order(before: Mapping[int, set[int]]) -> list[int]:
+    """Intervals so that each comes after those that end before it starts, and else early if it came early."""
+    numbers, places = list(before), {number: place for place, number in enumerate(before)}
+    sorter, ready = TopologicalSorter(before), list[int]()
+    sorter.prepare()
     found: list[int] = []
-    while waiting:
-        number = next(number for number, others in waiting.items() if not others & waiting.keys())
-        del waiting[number]
-        found.append(number)
+    while sorter.is_active():
+        first, *ready = sorted([*ready, *(places[number] for number in sorter.get_ready())])
+        found.append(numbers[first])
+        sorter.done(numbers[first])
     return found
 
 
@@ -279,7 +289,7 @@ def put_bar(drawing: Drawing, number: int, y: float, text: str, begin: float) ->
     """One bar: its outline, its solid part, its marks, and its label."""
     row, extent = drawing.rows[number], drawing.extents[number]
     left, right = extent.outer
-    filling = "unasserted" if row.unasserted else row.kind
+    filling = row.filling()
     said = drawing.said(row)
     rounded = min(BAR / 2, (right - left) / 2) if row.kind == "event" else 0.0
     outline = Box(
@@ -341,20 +351,32 @@ def put_list(figure: Figure, drawing: Drawing, every: dict[int, Row], y: float) 
     if not known.listed:
         return y
     y = put_lines(figure, EDGE, y + 9, "Nothing says when:", bold=True)
-    told: set[Order] = set()
+    said, x = of_listed(known, every), EDGE + 4
     for number in known.listed:
-        orders = [order for order in known.orders if number in (order.first // 2, order.second // 2) and order not in told]
-        told.update(orders)
-        said = "; ".join(order_said(order, every) for order in orders)
-        y = put_lines(figure, EDGE + 4, y, f"{named(every[number])}{': ' if said else ''}{said}", name=every[number].name)
-    return y
+        text = f"{named(every[number])}{': ' if said[number] else ''}{'; '.join(said[number])}"
+        broad = measured(text, LABEL) + 8
+        if x > EDGE + 4 and x + broad > figure.width - EDGE:
+            x, y = EDGE + 4, y + LEADING
+        below = put_lines(figure, x, y, text, name=every[number].name)
+        x, y = (x + broad, y) if below - y < LEADING + 1 else (EDGE + 4, below)
+    return y + LEADING if x > EDGE + 4 else y
+
+
+def of_listed(known: Known, every: Mapping[int, Row]) -> dict[int, list[str]]:
+    """Of each listed interval its orders in words; one of two that are listed is said of the first."""
+    found: dict[int, list[str]] = {number: [] for number in known.listed}
+    for order in known.orders:
+        ends = found.keys() & {order.first // 2, order.second // 2}
+        if ends:
+            found[min(ends)].append(order_said(order, every))
+    return found
 
 
 def put_lines(figure: Figure, x: float, y: float, text: str, *, size: float = LABEL, bold: bool = False, name: str = "") -> float:
     """A text in lines from a height on. Answers where the next one goes."""
     for line in in_lines(text, figure.width - EDGE - x, size):
         figure.shapes.append(Text(x, y, line, size, bold=bold, name=name))
-        y += size + 2.2
+        y += size + LEADING - LABEL
     return y
 
 
@@ -370,32 +392,30 @@ def put_legend(figure: Figure, drawing: Drawing, y: float) -> None:
     """What there is in the picture means in words; and how far down the picture reaches."""
     boxes = [one for one in figure.shapes if isinstance(one, Box)]
     kinds = {one.kind for one in figure.shapes if isinstance(one, Line)}
-    full = any(one.filling != "exact" and not one.hollow for one in boxes)
-    short = "If it stops short of a line it does not reach that; if it touches it, it may."
+    bar = Box(0, -5, 9, 6, "event")
     table: tuple[tuple[bool, Shape, str], ...] = (
-        (
-            bool(drawing.places),
-            Line(((4.5, -5), (4.5, 1)), 0.5, LIGHT),
-            "a start or an end. Each is before the next one to the right. Between two, place and width say nothing.",
+        (bool(drawing.places), Line(((4.5, -5), (4.5, 1)), 0.5, LIGHT), "start or end, before all to its right; width says nothing"),
+        (any(one.filling != "exact" and not one.hollow for one in boxes), bar, "lasts"),
+        (any(one.hollow for one in boxes), replace(bar, hollow=True), "may last, up to a line only if it touches it"),
+        (any(any(one.is_open) for one in boxes), replace(bar, hollow=True, is_open=(False, True)), "no limit"),
+        ("begun" in kinds, Line(((4.5, -5), (4.5, -1)), 1.4), "has begun"),
+        ("not-ended" in kinds, Line(((4.5, -3), (4.5, 1)), 1.4), "has not ended"),
+        *(
+            (kind in kinds, replace(look, way=((0, -2), (9, -2))), said)
+            for (kind, look), said in zip(LINES.values(), LINES_SAID, strict=True)
         ),
-        (full, Box(0, -5, 9, 6, "event"), "full: it lasts here in any case."),
-        (any(one.hollow for one in boxes), Box(0, -5, 9, 6, "event", hollow=True), f"hollow: it may last here, and not beyond. {short}"),
-        (
-            any(any(one.is_open) for one in boxes),
-            Box(0, -5, 9, 6, "event", hollow=True, is_open=(False, True)),
-            "open: nothing limits it on this side.",
-        ),
-        ("begun" in kinds, Line(((4.5, -5), (4.5, -1)), 1.4), "mark at the top of a bar: it has begun here in any case."),
-        ("not-ended" in kinds, Line(((4.5, -3), (4.5, 1)), 1.4), "mark at the foot of a bar: it has not ended here in any case."),
     )
     items = kinds_in(figure) + [(sign, said) for is_there, sign, said in table if is_there]
-    where = "A line meets a bar in its left third for its start, in its right third for its end; "
-    where += "from middle to middle it leads from an end to a start."
-    for sign, said in (("<", "before."), ("≤", "before, or at the same time."), ("=", "at the same time.")):
-        if LINES[sign][0] in kinds:
-            items.append((replace(LINES[sign][1], way=((0, -2), (9, -2))), f"{said} {where}"))
-            where = ""
-    figure.height = put_items(figure, items, y + 6) + 4
+    y = put_items(figure, items, y + 6)
+    are_whole = {is_whole(one) for one in drawing.timeline.known.orders if {one.first // 2, one.second // 2} <= drawing.bars.keys()}
+    ends = [
+        said
+        for whole, said in ((False, "left third of a bar: its start; right: its end"), (True, "middle: end to start"))
+        if whole in are_whole
+    ]
+    if ends:
+        y = put_lines(figure, EDGE, y + 9.5, f"Lines at the {'; '.join(ends)}.", size=SMALL) - (SMALL + LEADING - LABEL)
+    figure.height = y + 4
 
 
 def put_items(figure: Figure, items: Sequence[tuple[Shape, str]], y: float) -> float:
@@ -406,7 +426,7 @@ def put_items(figure: Figure, items: Sequence[tuple[Shape, str]], y: float) -> f
         if x > EDGE and x + broad > figure.width - EDGE:
             x, y = EDGE, y + 9.5
         figure.shapes.append(moved(shape, x, y))
-        y = put_lines(figure, x + 12, y, said, size=SMALL) - (SMALL + 2.2)
+        y = put_lines(figure, x + 12, y, said, size=SMALL) - (SMALL + LEADING - LABEL)
         x += broad + 7
     return y
 

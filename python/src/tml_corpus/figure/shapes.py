@@ -101,3 +101,6 @@ class Figure:
     height: float = 0.0
     said: str = ""
     """The same in sentences."""
+
+    axis: float = 0.0
+    """How far down the dates reach, which stay in sight if what is below them is scrolled."""

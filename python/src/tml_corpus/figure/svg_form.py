@@ -14,15 +14,14 @@ HALO = {"fill": "none", "stroke": "#ffffff", "stroke_width": "2", "stroke_linejo
 """The rim of letters."""
 
 
-def svg(figure: Figure) -> str:
-    """The picture as a file, as broad on paper as it was asked for."""
-    return svg_file(drawing(figure))
+def svg(figure: Figure, is_for_screen: bool = False) -> str:
+    """The picture as a file, as broad on paper as it was asked for, or for a screen."""
+    return svg_file(on_screen(figure) if is_for_screen else drawing(figure))
 
 
-def on_screen(figure: Figure) -> str:
-    """The picture as a file for a screen, of twice the size."""
-    size = {"width": two(2 * figure.width), "height": two(2 * figure.height), "style": "background:#fff"}
-    return svg_file(drawing(figure, **size))
+def on_screen(figure: Figure) -> Markup:
+    """The picture as an element for a screen, of twice the size."""
+    return drawing(figure, width=two(2 * figure.width), height=two(2 * figure.height), style="background:#fff")
 
 
 def drawing(figure: Figure, **size: str) -> Markup:

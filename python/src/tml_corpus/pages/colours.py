@@ -1,4 +1,4 @@
-"""The colours of pages and pictures, for light and for dark screens, and which stand on which: a test reads that each pair has contrast."""
+"""The colours of pages, for light and for dark screens, and which stand on which: a test reads that each pair has contrast."""
 
 from __future__ import annotations
 
@@ -9,8 +9,6 @@ LIGHT = {
     "soft": "#505860",
     "line": "#c3cad1",
     "strong": "#16324f",
-    "known": "#2a6496",
-    "doubt": "#5f6b76",
     "mark": "#f6b800",
     "near": "#fdeebf",
     "wrong": "#a40000",
@@ -25,8 +23,6 @@ DARK = {
     "soft": "#a8b0b8",
     "line": "#4a525a",
     "strong": "#a9cdf0",
-    "known": "#7fb2e5",
-    "doubt": "#a3adb8",
     "mark": "#6b4e00",
     "near": "#453a17",
     "wrong": "#ff9c8f",
@@ -38,9 +34,9 @@ DARK = {
 PAIRS = tuple(
     (colour, ground)
     for ground, colours in (
-        ("paper", ("ink", "soft", "strong", "known", "doubt", "wrong", "good", "touch", "link")),
-        ("odd", ("ink", "soft", "strong", "known", "doubt", "wrong", "good", "touch", "link")),
-        ("near", ("ink", "soft", "strong", "known", "doubt", "wrong", "link")),
+        ("paper", ("ink", "soft", "strong", "wrong", "good", "touch", "link")),
+        ("odd", ("ink", "soft", "strong", "wrong", "good", "touch", "link")),
+        ("near", ("ink", "soft", "strong", "wrong", "link")),
         ("mark", ("ink", "strong")),
     )
     for colour in colours

@@ -106,7 +106,7 @@ def listed(
     rows = []
     for name, count in counts:
         heading = element("th", shown(name), scope="row", data_search=plain(name) if is_searched else None)
-        bar = element("td", drawn(count, most), class_="drawn") if is_drawn else NOTHING
+        bar = element("td", drawn(count, most), class_="count") if is_drawn else NOTHING
         rows.append(element("tr", heading, number_cell(count), bar))
     return element("table", "\n", lined(element("caption", title), element("tbody", "\n", lined(*rows)))) if rows else NOTHING
 

@@ -13,19 +13,18 @@ from ..check.placed import Mark, PlacedFault, PlacedWarning
 from ..clash.report import PlacedClash, PlacedLink
 from ..clash.walk_words import WalkStep, steps_in_words
 from ..document.words import Wording
-from ..figure.of_clash import figure_of
+from ..figure import of_clash, of_timeline
+from ..figure.html_form import in_page, in_words
 from ..figure.svg_form import drawing
 from ..files.finding import counted
-from ..timeline.html_rows import LEFT, explained, in_rows
 from ..timeline.lettering import plain
-from ..timeline.plot import Chain
 from ..timeline.rows import Row, Timeline
 from .documents import Entry, Examined, entry_of, free_dates
 from .frame import coded, framed, isolated, listed, section
 from .text import Words, marked_text
 
-RING = 240.0
-"""How broad the ring of a clash is, in points."""
+RING, BESIDE = 240.0, 450.0
+"""How broad the ring of a clash is, and the picture of a timeline, in points."""
 
 
 def page_of(examined: Examined) -> str:
@@ -110,7 +109,7 @@ def clash_part(wording: Wording, words: Words, clash: PlacedClash, number: int) 
         listed(*(element("li", link_reference(link), source_part(link.source)) for link in clash.links), kind="cited"),
         listed(*notes),
         element("p", "Why: each step leads to a point that cannot be earlier.", class_="why"),
-        element("div", drawing(figure_of(title, wording, steps, RING, has_lines=False)), class_="ring"),
+        element("div", drawing(of_clash.figure_of(title, wording, steps, RING, has_lines=False)), class_="ring"),
         element("ol", "\n", lined(*(step_part(wording, words, step) for step in steps)), class_="walk"),
         element("p", "So ", first, f" would be before itself, which cannot be. {cure}, or a date that a step goes by is.", class_="end"),
     )
@@ -160,15 +159,14 @@ def reading(examined: Examined, wording: Wording, words: Words) -> Markup:
 
 
 def timeline_part(timeline: Timeline, words: Words, touching: bool) -> Markup:
-    """The timeline, of which each row leads to its word."""
+    """The timeline, and its intervals, each of which leads to its word."""
     note = element("p", "Links between dates that touch are read here as the relation that holds.") if touching else NOTHING
-    axis = Chain.of(timeline, LEFT)
-    rows = in_rows(timeline, axis, "a", lambda place, row: leading(words, place, row))
-    return section("timeline", "Timeline", note, explained(timeline, axis), element("div", rows, class_="picture"))
+    figure = of_timeline.figure_of(timeline, BESIDE, with_said=True)
+    return section("timeline", "Timeline", note, in_page(figure), in_words(timeline, "a", lambda place, row: leading(words, place, row)))
 
 
 def leading(words: Words, place: int, row: Row) -> dict[str, Value]:
-    """What makes a row of the timeline lead to its word in the text."""
+    """What makes an interval of the timeline lead to its word in the text."""
     word = words.identifier(row.name)
     leads = {"class_": "leading", "href": f"#{word}", "data_word": word}
     return {"id": f"bar{place}", **leads, "data_links": len(row.linked()), "aria_label": plain(row.description().split("\n", 1)[0])}

@@ -94,7 +94,9 @@ const text = document.querySelector(".text");
 const links = Array.from(document.querySelectorAll(".links li"));
 const steps = Array.from(document.querySelectorAll(".walk li"));
 const bars = Array.from(document.querySelectorAll("a.leading"));
-const titles = bars.map((bar) => bar.querySelector("title").textContent.split("\\n"));
+const titles = bars.map((bar) => bar.title.split("\\n"));
+const parts = new Map(bars.map((bar) => [bar.dataset.interval, [bar]]));
+document.querySelectorAll("#drawn [data-interval]").forEach((part) => parts.get(part.dataset.interval).push(part));
 const ofWord = new Map();
 const add = (word, link) => {
   if (!ofWord.has(word)) ofWord.set(word, []);
@@ -110,7 +112,9 @@ const drawn = new Set();
 let marked = [];
 let pinned = null;
 
-const mark = (one, name) => { if (one) { one.classList.add(name); marked.push(one); } };
+const mark = (one, name) => {
+  if (one) (parts.get(one.dataset.interval) || [one]).forEach((part) => { part.classList.add(name); marked.push(part); });
+};
 const clear = () => { marked.forEach((one) => one.classList.remove("on", "near")); marked = []; };
 const light = (word, name) => { mark(word, name); barsOf(word).forEach((bar) => mark(bar, name)); };
 const line = (words) => {
@@ -163,8 +167,11 @@ together(words);
 together(bars);
 bars.forEach((bar) => {
   const word = byId(bar.dataset.word);
-  bar.querySelector("title").remove();
-  both(word, bar, bar, () => word);
+  bar.removeAttribute("title");
+  parts.get(bar.dataset.interval).forEach((part) => {
+    part.querySelectorAll("title").forEach((one) => one.remove());
+    both(word, bar, part, () => word);
+  });
 });
 document.addEventListener("keydown", (event) => {
   if (event.key !== "Escape") return;

@@ -2,7 +2,7 @@
 
 from __future__ import annotations
 
-from ..timeline import html_rows
+from ..figure import html_form
 from .colours import variables
 
 PLAIN = """
@@ -18,7 +18,7 @@ code{background:var(--odd);padding:0 .25em;border-radius:3px;font-size:.93em}
 INDEX = """
 .totals{display:flex;flex-wrap:wrap;gap:8px 32px;align-items:flex-start}caption{text-align:left;font-weight:bold;padding:4px 0}
 table{border-collapse:collapse}td,th{padding:2px 8px;border-bottom:1px solid var(--line);text-align:left;font-weight:normal;vertical-align:top}
-.number{text-align:right;white-space:nowrap;font-variant-numeric:tabular-nums}.drawn svg{vertical-align:middle}.drawn rect{fill:var(--known)}
+.number{text-align:right;white-space:nowrap;font-variant-numeric:tabular-nums}.count svg{vertical-align:middle}.count rect{fill:var(--strong)}
 .wide{overflow:auto}#documents thead th{font-weight:bold;vertical-align:bottom}
 #documents tbody th{min-width:14em;overflow-wrap:anywhere}#documents tbody tr:hover{background:var(--odd)}
 th button{background:none;border:0;padding:0;color:inherit;text-align:left;cursor:pointer;text-decoration:underline dotted}
@@ -56,17 +56,17 @@ columns:26em}#panel div{break-inside:avoid;padding-left:1.4em;text-indent:-1.4em
 """
 
 PICTURE = """
-.picture{overflow:auto;max-height:76vh}.picture .rows,.picture .head{grid-template-columns:minmax(6em,12em) 9em max-content}
-.picture .event .around{visibility:hidden}.leading:focus{outline:3px solid var(--strong);outline-offset:-3px}
+.picture{max-height:60vh;margin-bottom:8px}.rows{max-height:30vh;overflow:auto}.leading.event .around{display:none}
+.leading:focus{outline:3px solid var(--strong);outline-offset:-3px}
 .leading.on,.leading:target,.leading:focus{background:var(--mark)}.leading.near{background:var(--near)}
 .leading.on .name,.leading.on .around,.leading:focus .name,.leading:focus .around,.leading:target .name{color:var(--ink)}
 """
 
 PRINTED = """
-@media print{body{margin:0}.text,.picture,.links,.wide{max-height:none;overflow:visible}#panel,#search,.tools,.back,button{display:none}
-.reading{display:block}h1,h2,h3,caption,.how summary{break-after:avoid}li,tr,.row,pre,.how{break-inside:avoid}thead{display:table-header-group}
+@media print{body{margin:0}.text,.picture,.rows,.links,.wide{max-height:none;overflow:visible}#panel,#search,.tools,.back,button{display:none}
+.reading{display:block}h1,h2,h3,caption{break-after:avoid}li,tr,pre{break-inside:avoid}thead{display:table-header-group}
 .fault,.warning,.legend,.why{break-after:avoid}.ring{break-inside:avoid}}
 """
 
-STYLE = variables() + PLAIN + INDEX + MARKS + html_rows.STYLE + PICTURE + PRINTED
+STYLE = variables() + PLAIN + INDEX + MARKS + html_form.STYLE + PICTURE + PRINTED
 """The whole file."""

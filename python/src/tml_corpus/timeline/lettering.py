@@ -3,6 +3,7 @@
 from __future__ import annotations
 
 import unicodedata
+from functools import lru_cache
 
 from tml.markup import JOINERS, printed
 
@@ -23,7 +24,8 @@ NARROW = set(" .,:;'|!()[]/\\-ijlftrI")
 
 def plain(text: str) -> str:
     """The text with single spaces and without format characters; what cannot be printed is the replacement character."""
-    return "".join(character for character in map(printed, " ".join(text.split())))
+    line = " ".join(text.split())
+    return line if line.isprintable() else "".join(map(printed, line))
 
 
 def measured(text: str, size: float) -> float:
@@ -31,6 +33,7 @@ def measured(text: str, size: float) -> float:
     return size * sum(map(share, text))
 
 
+@lru_cache(4096)
 def share(character: str) -> float:
     """The room of one character, in parts of the size of the font."""
     if unicodedata.combining(character) or character in JOINERS:

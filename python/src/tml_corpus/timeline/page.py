@@ -1,33 +1,33 @@
-"""A timeline as a page of HTML: its rows, and below them the links of the row that is pointed at and what it can be to the others.
+"""A timeline as a page of HTML: its picture, its intervals, and below them what is known of the one that is pointed at.
 
-Its links are drawn too; rows can be searched for, and put in the order of the text. It loads nothing.
+Its links are drawn too; intervals can be searched for, and put in the order of the text. It loads nothing.
 """
 
 from __future__ import annotations
 
 import base64
 import hashlib
-from collections.abc import Callable
 
 from tml.markup import Markup, data, element, html_file, lined, raw
 from tml.matrices import Matrix
 from tml.statuses import BASE_RELATIONS, INVERSES
 
+from ..figure import html_form
+from ..figure.shapes import Figure
 from ..pages.colours import variables
-from . import html_rows
-from .html_rows import LEFT, explained, in_rows
-from .lettering import plain
 from .page_script import SCRIPT
-from .plot import Chain, Plot
 from .rows import Timeline
 
 STYLE = (
     variables()
+    + html_form.STYLE
     + """
 html,body{height:100%}
 body{margin:0;display:flex;flex-direction:column;background:var(--paper);color:var(--ink);
 font:14px/1.45 "DejaVu Sans",Verdana,Helvetica,Arial,sans-serif}
-main{flex:1;overflow:auto;min-height:0}h1,.how,noscript p{margin:8px 16px;position:sticky;left:16px;max-width:min(62em,calc(100vw - 32px))}
+main{flex:1;overflow:auto;min-height:0;padding:0 16px}h1,noscript p{margin:8px 0;position:sticky;left:0}
+.picture{overflow:visible;width:max-content;min-width:100%;max-width:1200px}
+.drawn{width:calc(100vw - 32px);max-width:1200px;min-width:900px}
 h1{font-size:1.3em;overflow-wrap:anywhere}
 #links{max-height:32vh;overflow:auto;padding:8px 16px;border-top:2px solid var(--strong);columns:28em;font-size:13px}
 #links div{break-inside:avoid;padding-left:1.5em;text-indent:-1.5em;overflow-wrap:anywhere}#links div:first-child{font-weight:bold}
@@ -37,13 +37,12 @@ h1{font-size:1.3em;overflow-wrap:anywhere}
 .row{cursor:pointer}.row.dim{display:none}.row.on{background:var(--mark)}.row.near{background:var(--near)}
 .row:focus-visible,main:focus-visible,#links:focus-visible{outline:3px solid var(--strong);outline-offset:-3px}
 .row.on .name,.row.on .around{color:var(--ink)}
-.over{position:absolute;left:0;top:0;width:1px;height:1px;overflow:visible;pointer-events:none;z-index:2}
-.timeline .link{fill:none;stroke:var(--link);stroke-width:1.5}.timeline svg .relation{font-size:11px;fill:var(--link);stroke:var(--paper);
-stroke-width:3;paint-order:stroke}#arrow{fill:var(--link)}
+.rows{max-width:1200px}g.dim,text.dim{opacity:.15}
+.link{fill:none;stroke:#8a1c5c;stroke-width:.8}.relation{font-size:6px;fill:#8a1c5c;stroke:#fff;stroke-width:1.5;paint-order:stroke}
+#arrow{fill:#8a1c5c}
 @media print{@page{size:landscape}html,body{display:block;height:auto}main{overflow:visible}#links,#tools{display:none}
-h1{break-after:avoid}h1,.how{position:static}.apart{break-after:avoid}.how{break-inside:avoid}}
+h1{break-after:avoid;position:static}.drawn{width:auto;min-width:0}}
 """
-    + html_rows.STYLE
 )
 
 TOOLS = element(
@@ -65,7 +64,7 @@ POINT = (
 )
 WITHOUT = element(
     "p",
-    "Without scripts a title beside the pointer has the links of a row and how far it can move; ",
+    "Without scripts a title next to the pointer has the links of a row and how far it can move; ",
     element("code", "tml-corpus matrix"),
     " prints what it can be to the others.",
 )
@@ -84,11 +83,9 @@ def possible(matrix: Matrix, order: tuple[int, ...]) -> dict[str, object]:
     return {"names": BASE_RELATIONS, "inverses": inverses, "first": FIRST, "sets": sets, "rows": rows}
 
 
-def page(timeline: Timeline, plot_of: Callable[[Timeline, float], Plot] = Chain.of) -> str:
-    """The page as a file, over an axis of some kind. It is XML too, so that whoever likes can read it with such a reader."""
+def page(timeline: Timeline, figure: Figure) -> str:
+    """The page as a file. It is XML too, so that whoever likes can read it with such a reader."""
     digest = base64.b64encode(hashlib.sha256(SCRIPT.encode()).digest()).decode()
-    axis = plot_of(timeline, LEFT)
-    title = f"{axis.title}{plain(timeline.title)}"
     head = lined(
         element("meta", charset="utf-8"),
         element(
@@ -97,14 +94,14 @@ def page(timeline: Timeline, plot_of: Callable[[Timeline, float], Plot] = Chain.
             content=f"default-src 'none'; style-src 'unsafe-inline'; script-src 'sha256-{digest}'",
         ),
         element("meta", name="viewport", content="width=device-width, initial-scale=1"),
-        element("title", title),
+        element("title", figure.title),
         raw("style", STYLE),
     )
-    rows = in_rows(timeline, axis, "div", lambda place, row: {"id": f"row{place}"})
-    content = lined(element("h1", element("bdi", title)), explained(timeline, axis), rows, element("noscript", WITHOUT))
+    rows = html_form.in_words(timeline, "div", lambda place, row: {"id": f"row{place}"})
+    content = lined(element("h1", element("bdi", figure.title)), html_form.in_page(figure), rows, element("noscript", WITHOUT))
     body = lined(
         TOOLS,
-        element("main", "\n", content, aria_label=title, tabindex="0"),
+        element("main", "\n", content, aria_label=figure.title, tabindex="0"),
         element("div", POINT, id="links", role="status", tabindex="0", aria_label="Links of a row"),
         *values(timeline),
         raw("script", SCRIPT),

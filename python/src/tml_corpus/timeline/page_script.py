@@ -4,15 +4,19 @@ from __future__ import annotations
 
 SCRIPT = """
 "use strict";
-const panel = document.getElementById("links");
-const rows = Array.from(document.querySelectorAll(".rows > .row"));
-const parse = (name) => JSON.parse(document.getElementById(name).textContent);
-const [partners, possible, links, inText] = ["partners", "possible", "ends", "intext"].map(parse);
-const texts = rows.map((row) => row.querySelector("title").textContent);
+const byId = (name) => document.getElementById(name);
+const [panel, drawn, order, search] = ["links", "drawn", "order", "search"].map(byId);
+const [partners, possible, links, inText] = ["partners", "possible", "ends", "intext"].map((name) => JSON.parse(byId(name).textContent));
+const rows = Array.from(document.querySelectorAll(".row"));
+const texts = rows.map((row) => row.title);
 const labels = texts.map((text) => text.split("\\n", 1)[0].replace(/: [^:]*$/, ""));
-const groups = rows.map((row) => row.parentNode);
+const seen = rows.map((row) => row.textContent.toLowerCase());
+const places = new Map(rows.map((row, place) => [row.dataset.interval, place]));
+const bars = rows.map(() => []);
+drawn.querySelectorAll("[data-interval]").forEach((part) => bars[places.get(part.dataset.interval)].push(part));
 let sequence = rows.map((row, place) => place);
 let marked = [];
+let shown = null;
 let pinned = null;
 const shape = (name, values) => {
   const part = document.createElementNS("http://www.w3.org/2000/svg", name);
@@ -21,42 +25,31 @@ const shape = (name, values) => {
 };
 const arrow = shape("marker", { id: "arrow", markerWidth: 7, markerHeight: 7, refX: 6, refY: 3, orient: "auto" });
 arrow.append(shape("path", { d: "M0 0L6 3L0 6z" }));
-const over = shape("svg", { class: "over", "aria-hidden": "true" });
-const drawn = shape("g", {});
-over.append(arrow, drawn);
-const inner = document.querySelector(".inner");
-if (inner) inner.append(over);
-const anchor = (place) => {
-  const bar = rows[place].querySelector(".bar") || rows[place].querySelector(".hollow");
-  if (!bar) return null;
-  const [box, frame] = [rows[place].querySelector(".bars"), inner].map((one) => one.getBoundingClientRect());
-  const number = (name) => Number(bar.getAttribute(name));
-  return [box.left - frame.left + number("x") + number("width") / 2, box.top - frame.top + 11];
+const over = shape("g", { "aria-hidden": "true", "pointer-events": "none" });
+drawn.append(arrow, over);
+const middle = (place) => {
+  const box = bars[place][0].getBBox();
+  return [box.x + box.width / 2, box.y + box.height / 2];
 };
 const curve = ([left, , right]) => {
-  const [[x, y], [toX, toY]] = [anchor(left), anchor(right)];
+  const [[x, y], [toX, toY]] = [middle(left), middle(right)];
   const bend = (y + toY) / 2;
   return shape("path", { class: "link", d: `M${x} ${y}C${x} ${bend} ${toX} ${bend} ${toX} ${toY}`, "marker-end": "url(#arrow)" });
 };
-const named = (place, touching) => {
-  const names = new Map();
-  touching.forEach(([left, relation, right]) => {
-    const other = left === place ? right : left;
-    names.set(other, [...(names.get(other) || []), relation]);
-  });
-  return [...names].map(([other, relations]) => {
-    const [x, y] = anchor(other);
-    const part = shape("text", { class: "relation", x: x + 10, y: y + 4 });
-    part.textContent = [...new Set(relations)].join(", ");
-    return part;
-  });
+const named = (other, relations) => {
+  const [x, y] = middle(other);
+  const part = shape("text", { class: "relation", x: x + 5, y: y + 2 });
+  part.textContent = [...new Set(relations)].join(", ");
+  return part;
 };
 const drawLinks = (place) => {
   const joins = ([left, , right]) => left !== right ? [left, right].includes(place) : false;
-  const touching = links.filter((one) => joins(one) ? [one[0], one[2]].every(anchor) : false);
-  drawn.replaceChildren(...touching.map(curve), ...named(place, touching));
+  const touching = links.filter((one) => joins(one) ? [one[0], one[2]].every((end) => bars[end].length) : false);
+  const others = new Map(touching.map(([left, , right]) => [left === place ? right : left, []]));
+  touching.forEach(([left, relation, right]) => others.get(left === place ? right : left).push(relation));
+  over.replaceChildren(...touching.map(curve), ...[...others].map(([other, relations]) => named(other, relations)));
 };
-const mark = (row, name) => { row.classList.add(name); marked.push(row); };
+const mark = (place, name) => [rows[place], ...bars[place]].forEach((one) => { one.classList.add(name); marked.push(one); });
 const line = (text, kind) => {
   const part = document.createElement("div");
   part.textContent = text;
@@ -83,73 +76,73 @@ const standing = (place) => {
     return (all ? "any relation" : relations.map((one) => possible.names[one]).join(" or ")) + ": " + others.join(", ");
   });
 };
-const goTo = (place) => { if (place !== undefined) rows[place].focus(); };
-const reach = (row) => rows.forEach((one) => one.setAttribute("tabindex", one === row ? "0" : "-1"));
+const show = (place) => {
+  if (shown === place) return;
+  marked.forEach((one) => one.classList.remove("on", "near"));
+  [marked, shown] = [[], place];
+  const others = standing(place).map((text) => line(text, "open"));
+  panel.replaceChildren(...texts[place].split("\\n").map((text) => line(text)), line("What it can be to the others:", "open"), ...others);
+  panel.scrollTop = 0;
+  mark(place, "on");
+  drawLinks(place);
+  partners[place].forEach((other) => mark(other, "near"));
+};
+const pin = (place) => {
+  pinned = pinned === place ? null : place;
+  rows.forEach((one, other) => one.setAttribute("aria-pressed", String(other === pinned)));
+  show(place);
+};
+const point = (place) => { if (pinned === null) show(place); };
 rows.forEach((row, place) => {
-  const words = texts[place];
-  row.querySelector("title").remove();
-  row.setAttribute("tabindex", place === 0 ? "0" : "-1");
-  row.setAttribute("role", "button");
-  row.setAttribute("aria-label", words.split("\\n", 1)[0]);
-  row.setAttribute("aria-pressed", "false");
-  const show = () => {
-    if (marked[0] === row) return;
-    marked.forEach((one) => one.classList.remove("on", "near"));
-    marked = [];
-    const others = standing(place).map((text) => line(text, "open"));
-    panel.replaceChildren(...words.split("\\n").map((text) => line(text)), line("What it can be to the others:", "open"), ...others);
-    panel.scrollTop = 0;
-    mark(row, "on");
-    drawLinks(place);
-    partners[place].forEach((other) => mark(rows[other], "near"));
-  };
-  row.addEventListener("pointermove", () => { if (pinned === null) show(); });
-  row.addEventListener("focus", () => { reach(row); if (pinned === null) show(); });
-  const pin = () => {
-    pinned = pinned === row ? null : row;
-    rows.forEach((one) => one.setAttribute("aria-pressed", String(one === pinned)));
-    show();
-  };
-  row.addEventListener("click", pin);
-  const step = (by) => () => goTo(sequence[sequence.indexOf(place) + by]);
-  const ends = [["Home", () => goTo(sequence[0])], ["End", () => goTo(sequence[sequence.length - 1])]];
-  const keys = new Map([["Enter", pin], [" ", pin], ["ArrowUp", step(-1)], ["ArrowDown", step(1)], ...ends]);
+  const said = { role: "button", "aria-label": texts[place].split("\\n", 1)[0], "aria-pressed": "false" };
+  const words = { tabindex: place === 0 ? "0" : "-1", ...said };
+  Object.entries(words).forEach(([key, value]) => row.setAttribute(key, value));
+  row.removeAttribute("title");
+  bars[place].forEach((part) => part.setAttribute("aria-hidden", "true"));
+  bars[place].forEach((part) => part.querySelectorAll("title").forEach((one) => one.remove()));
+  [row, ...bars[place]].forEach((one) => {
+    one.addEventListener("pointermove", () => point(place));
+    one.addEventListener("click", () => pin(place));
+  });
+  row.addEventListener("focus", () => {
+    rows.forEach((one) => one.setAttribute("tabindex", one === row ? "0" : "-1"));
+    point(place);
+  });
+  const step = (by) => () => sequence[sequence.indexOf(place) + by];
+  const ends = [["Home", () => sequence[0]], ["End", () => sequence[sequence.length - 1]]];
+  const goals = new Map([["ArrowUp", step(-1)], ["ArrowDown", step(1)], ...ends]);
   row.addEventListener("keydown", (event) => {
-    if (!keys.has(event.key)) return;
+    if (["Enter", " "].includes(event.key)) pin(place);
+    else if (!goals.has(event.key)) return;
     event.preventDefault();
-    keys.get(event.key)();
+    const goal = goals.has(event.key) ? goals.get(event.key)() : undefined;
+    if (goal !== undefined) rows[goal].focus();
   });
 });
-const order = document.getElementById("order");
 order.addEventListener("click", () => {
   const isOn = order.getAttribute("aria-pressed") !== "true";
   order.setAttribute("aria-pressed", String(isOn));
   sequence = isOn ? inText : rows.map((row, place) => place);
-  sequence.forEach((place) => groups[place].append(rows[place]));
-  if (marked.length) drawLinks(rows.indexOf(marked[0]));
+  if (rows.length) rows[0].parentNode.append(...sequence.map((place) => rows[place]));
 });
-const search = document.getElementById("search");
-const seen = rows.map((row) => Array.from(row.querySelectorAll("span"), (one) => one.textContent).join(" ").toLowerCase());
 const found = () => {
   const wanted = search.value.trim().toLowerCase();
-  return wanted ? sequence.filter((place) => seen[place].includes(wanted)) : [];
+  return wanted ? sequence.filter((place) => seen[place].includes(wanted)) : sequence;
 };
 search.addEventListener("input", () => {
-  const places = found();
-  const isOn = search.value.trim() !== "";
-  rows.forEach((row, place) => row.classList.toggle("dim", isOn ? !places.includes(place) : false));
-  document.getElementById("count").textContent = isOn ? `${places.length} of ${rows.length} rows` : "";
-  if (marked.length) drawLinks(rows.indexOf(marked[0]));
+  const some = new Set(found());
+  rows.forEach((row, place) => [row, ...bars[place]].forEach((one) => one.classList.toggle("dim", !some.has(place))));
+  byId("count").textContent = search.value.trim() ? `${some.size} of ${rows.length} rows` : "";
 });
 search.addEventListener("keydown", (event) => {
-  if (event.key !== "Enter") return;
+  if (event.key !== "Enter" || search.value.trim() === "") return;
   const places = found();
-  const next = places.find((place) => sequence.indexOf(place) > sequence.indexOf(rows.indexOf(marked[0])));
+  const next = places.find((place) => sequence.indexOf(place) > sequence.indexOf(shown));
   const place = next === undefined ? places[0] : next;
   if (place === undefined) return;
   pinned = null;
   rows[place].scrollIntoView({ block: "center" });
-  rows[place].dispatchEvent(new Event("focus"));
+  show(place);
 });
-document.getElementById("tools").hidden = false;
+byId("tools").hidden = false;
 """

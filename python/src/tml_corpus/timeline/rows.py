@@ -22,7 +22,6 @@ KINDS = {
 
 NOT_ASSERTED = "event that the document does not assert"
 NOT_KNOWN = "nothing says when"
-APART = "Nothing says when: no link or date gives these a bound on the axis."
 NO_INTERVAL = "There is no interval: the document has no event instance and no time."
 
 
@@ -58,6 +57,10 @@ class Row:
         if len(self.civil) != 2:
             return "no date" if self.kind == "free" else ""
         return f"{'within ' if self.kind == 'within' else ''}{stretch(*self.civil)}"
+
+    def filling(self) -> str:
+        """How its bar is filled: by its kind, unless it is not asserted."""
+        return "unasserted" if self.unasserted else self.kind
 
     def label(self) -> str:
         """Its whole text and its name."""
@@ -95,10 +98,6 @@ class Timeline:
 
     ends: tuple[tuple[int, str, int], ...] = ()
     """Of each link the rows of its ends, and between them its relation."""
-
-    def tied(self) -> int:
-        """How many rows have a bound on the axis; they come first."""
-        return sum(row.is_tied for row in self.rows)
 
     def in_text_order(self) -> list[int]:
         """The rows in the order of the text; last those that are listed."""

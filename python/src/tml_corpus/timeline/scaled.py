@@ -4,16 +4,13 @@ from __future__ import annotations
 
 from dataclasses import dataclass, fields, replace
 
-from tml.markup import Markup
-
+from ..figure.shapes import SMALL
 from ..seconds.civil import civil, length
 from ..seconds.formats import span
 from ..seconds.placed import Placed, PlacedInterval
 from .axis import extent, marks
-from .bars import drawn_extent
 from .extents import Extent
 from .lettering import measured
-from .plot import PLOT, SMALL, Band
 from .rows import NOT_KNOWN, Row, Timeline
 
 NARROWEST_BAR = 2.0
@@ -50,10 +47,10 @@ class Seconds:
         "lengths are met. Where an interval can start earlier or end later its bar is hollow, as far as that goes; it is open at a side "
         "without a limit."
     )
-    width: float = PLOT
+    width: float = 0.0
 
     @classmethod
-    def of(cls, timeline: Timeline, left: float, width: float = PLOT) -> Seconds:
+    def of(cls, timeline: Timeline, left: float, width: float) -> Seconds:
         """The axis that a placing needs, which begins at a position and is so broad."""
         first, last = extent([second for row in timeline.rows if row.is_tied for second in (row.start, row.finish)] or [0])
         return cls(left, first, last, width=width)
@@ -63,33 +60,21 @@ class Seconds:
         inside = min(max(second, self.first), self.last)
         return self.left + (inside - self.first) * self.width / (self.last - self.first)
 
-    def ends(self) -> tuple[float, float]:
-        """Where the axis begins and ends."""
-        return self.left, self.left + self.width
-
     def marks(self) -> list[tuple[float, str]]:
         """The marks of the axis, as many as have room."""
         most = int(self.width // (measured("0000-00-00 ", SMALL) + 8))
         return [(self.x(mark.second), mark.text) for mark in marks(self.first, self.last, most)]
-
-    def bands(self) -> list[Band]:
-        """No dates beside those of the axis itself."""
-        return []
 
     def extent(self, row: Row) -> Extent:
         """The bar of a row: solid where it is placed, and hollow where it can be too."""
         start, finish = self.x(row.start), self.x(row.finish)
         solid = start, max(finish, start + NARROWEST_BAR)
         earliest, latest = (row.starts[0], row.ends[1]) if isinstance(row, ScaledRow) else (row.start, row.finish)
-        left = self.ends()[0] if earliest is None else self.x(earliest)
-        right = self.ends()[1] if latest is None else self.x(latest)
+        left = self.left if earliest is None else self.x(earliest)
+        right = self.left + self.width if latest is None else self.x(latest)
         # What is shorter than a point is not seen.
         outer = left if left < solid[0] - 1 else solid[0], right if right > solid[1] + 1 else solid[1]
         return Extent(outer, (earliest is None, latest is None), solid)
-
-    def bars(self, row: Row, y: float) -> list[Markup]:
-        """The bar of a row, if something ties it."""
-        return drawn_extent(row, self.extent(row), y) if row.is_tied else []
 
 
 def scaled_row(row: Row, one: PlacedInterval, is_tied: bool) -> Row:
@@ -103,10 +88,3 @@ def with_ranges(timeline: Timeline, found: Placed) -> Timeline:
     intervals, untied = dict(zip(found.order, found.intervals, strict=True)), timeline.known.untied()
     rows = [scaled_row(row, intervals[number], number not in untied) for row, number in zip(timeline.rows, timeline.order, strict=True)]
     return replace(timeline, rows=rows, known=replace(timeline.known, listed=sorted(untied), orders=[]))
-
-
-def scaled_page(timeline: Timeline) -> str:
-    """The picture as a page, with the links of the row that is pointed at."""
-    from .page import page
-
-    return page(timeline, Seconds.of)

@@ -28,8 +28,12 @@ def point_called(rows: Mapping[int, Row], point: int) -> str:
 
 def place_called(known: Known, rows: Mapping[int, Row], place: int, besides: int = -1) -> str:
     """How a place of the axis is called: by a date if there is one, and not by some interval if there is another one."""
-    points = sorted(known.axis[place], key=lambda point: (point // 2 == besides, rows[point // 2].kind != "exact", point))
-    return point_called(rows, points[0])
+    return point_called(rows, point_at(known, rows, place, besides))
+
+
+def point_at(known: Known, rows: Mapping[int, Row], place: int, besides: int) -> int:
+    """The point by which a place is called."""
+    return min(known.axis[place], key=lambda point: (point // 2 == besides, rows[point // 2].kind != "exact", point))
 
 
 def sentences(known: Known, rows: Mapping[int, Row]) -> dict[int, tuple[str, ...]]:
@@ -47,18 +51,29 @@ def sentences(known: Known, rows: Mapping[int, Row]) -> dict[int, tuple[str, ...
 
 def bounded(known: Known, rows: Mapping[int, Row], point: int) -> str:
     """Between which places a point lies, or at which."""
-    place, number = known.place(point), point // 2
+    return " and ".join(f"{how} {place_called(known, rows, place, point // 2)}" for how, place in places_around(known, point))
+
+
+def places_around(known: Known, point: int) -> list[tuple[str, int]]:
+    """The places that say when a point is, and how."""
+    place = known.place(point)
     if place is not None and known.axis[place] != [point]:
-        return f"at {place_called(known, rows, place, number)}"
+        return [("at", place)]
     lower, upper = known.lower[point], known.upper[point]
     if place is not None:
         lower, upper = Bound(place - 1, True), Bound(place + 1, True)
-    parts = [
-        f"{words[bound.strict]} {place_called(known, rows, bound.place, number)}"
+    return [
+        (words[bound.strict], bound.place)
         for bound, words in ((lower, ("not before", "after")), (upper, ("not after", "before")))
         if bound is not None and 0 <= bound.place < len(known.axis) and known.axis[bound.place] != [point ^ 1]
     ]
-    return " and ".join(parts)
+
+
+def neighbours(known: Known, rows: Mapping[int, Row], number: int) -> set[int]:
+    """The intervals by which it is said when one starts and ends, and those with which it is in an order besides."""
+    points = {point_at(known, rows, place, number) for point in (2 * number, 2 * number + 1) for _, place in places_around(known, point)}
+    ends = ((order.first, order.second) for order in known.orders if number in (order.first // 2, order.second // 2))
+    return {point // 2 for point in points.union(*ends)}
 
 
 def order_said(order: Order, rows: Mapping[int, Row]) -> str:

@@ -22,7 +22,8 @@ from ..document.around import Around, Text, text_around
 from ..document.asserted import AssertedCopy, asserted_copy, unasserted
 from ..document.words import Wording
 from ..figure.draw import FORMS as BARE_FORMS
-from ..figure.draw import SCREEN, Paper, clash_picture, placing_picture, timeline_picture
+from ..figure.draw import PAGE, SCREEN, UNITS, Paper, clash_picture, placing_figure, timeline_figure, written
+from ..figure.shapes import Figure
 from ..files.finding import CannotRead, counted, read_document, shown
 from ..files.replacing import replace_file
 from ..matrix.orders import PointOrders, base_relation
@@ -32,7 +33,7 @@ from ..seconds.placed import Placed, Unplaced, document_placed
 from .known import Known
 from .page import page
 from .rows import Row, Timeline
-from .sentences import sentences
+from .sentences import neighbours, sentences
 
 Ranks = tuple[int, int]
 """Where the start and the end of an interval are: ranks of a timeline, or seconds of a placing."""
@@ -51,7 +52,13 @@ class Choices:
     asserted: bool = False
     in_text_order: bool = False
     rows: tuple[str, ...] = ()
-    """The names of the intervals that are drawn; none are all."""
+    """The names of intervals that are drawn."""
+
+    around: str = ""
+    """The name of one that is drawn with those that say when it is."""
+
+    between: tuple[str, ...] = ()
+    """The names of two that are drawn with all that lies from the start of the first to the end of the second. Without names all are."""
 
     context: bool = True
     """Whether the words around events stand beside them."""
@@ -111,12 +118,12 @@ def draw_placing(program: Program, path: str, target: str, choices: Choices) -> 
 
 def picture_of_placing(program: Program, path: str, target: str, found: Placed, choices: Choices) -> str | bytes:
     """The picture of a placing."""
-    from .scaled import scaled_page, with_ranges
+    from .scaled import with_ranges
 
     seconds = dict(zip(found.order, ((one.start, one.end) for one in found.intervals), strict=True))
     ranks = [seconds[number] for number in range(len(seconds))]
     timeline = with_ranges(timeline_of(program, os.path.basename(path), found.wording, ranks, choices), found)
-    return scaled_page(timeline) if form_of(target) in PAGES else placing_picture(timeline, choices.in_text_order)
+    return picture_of(timeline, placing_figure(timeline, choices.in_text_order), target, SCREEN)
 
 
 def draw_document(program: Program, path: str, document: bytes, target: str, choices: Choices) -> Drawn:
@@ -128,10 +135,24 @@ def draw_document(program: Program, path: str, document: bytes, target: str, cho
     timeline = verified(program, path, found.document, found.reply, choices)
     places = counted(len(timeline.known.axis), "place")
     counts = f"{counted(len(timeline.rows), 'interval')}, {counted(len(timeline.ends), 'link')}, an axis of {places}"
-    said = found.text + drawn_line(path, target, counts, copy)
-    if form_of(target) in PAGES:
-        return Drawn(said, Status.SUCCESS, page(timeline))
-    return Drawn(said, Status.SUCCESS, timeline_picture(timeline, choices.paper or SCREEN, choices.in_text_order))
+    paper, left_out = choices.paper or SCREEN, len(timeline.matrix.intervals) - len(timeline.rows)
+    figure = timeline_figure(timeline, paper, choices.in_text_order)
+    counts += f"; {counted(left_out, 'interval')} left out" if left_out else ""
+    said = found.text + drawn_line(path, target, counts, copy) + too_high(path, figure, paper)
+    return Drawn(said, Status.SUCCESS, picture_of(timeline, figure, target, paper))
+
+
+def too_high(path: str, figure: Figure, paper: Paper) -> str:
+    """What is said of a picture for a paper that no page has room for."""
+    if paper.is_for_screen or figure.height <= PAGE:
+        return ""
+    high = f"{figure.height / UNITS['mm']:.0f} mm"
+    return f"{shown(path)}: {high} are more than a page has: choose intervals by --rows ei1,t1 or --around ei1 or --between t1 t2\n"
+
+
+def picture_of(timeline: Timeline, figure: Figure, target: str, paper: Paper) -> str | bytes:
+    """A picture as a page, or as a file of its own."""
+    return page(timeline, figure) if form_of(target) in PAGES else written(figure, paper)
 
 
 def drawn_clash(program: Program, path: str, target: str, unfit: Unfit, choices: Choices) -> Drawn:
@@ -175,10 +196,11 @@ def timeline_of(program: Program, title: str, wording: Wording, ranks: Sequence[
     if len(ranks) != len(wording.intervals):
         raise CannotRun("the answers of tml to `check` and `solve` do not belong together")
     matrix, rows = matrix_of(program, wording.document, wording.intervals), rows_of(wording, ranks)
+    orders = PointOrders.of(matrix)
     if any(base_relation(ranks[left], ranks[right]) not in matrix.sets[number] for left, right, number in matrix.pairs()):
         raise CannotRun(NOT_FITTING)
-    wanted = chosen_rows(rows, choices.rows)
-    known = Known.of(PointOrders.of(matrix), [number for number in wanted if rows[number].kind == "exact"], wanted)
+    wanted = chosen_rows(rows, orders, choices)
+    known = known_of(rows, orders, wanted)
     said = sentences(known, {number: rows[number] for number in wanted})
     listed = set(known.listed)
     rows = [replace(row, said=said.get(number, ()), is_tied=number not in listed) for number, row in enumerate(rows)]
@@ -187,12 +209,27 @@ def timeline_of(program: Program, title: str, wording: Wording, ranks: Sequence[
     return linked(Timeline(title, [rows[number] for number in order], matrix, known, tuple(order)), wording)
 
 
-def chosen_rows(rows: Sequence[Row], names: Sequence[str]) -> list[int]:
-    """The numbers of the intervals of some names, or of all."""
-    unknown = sorted(set(names) - {row.name for row in rows})
+def known_of(rows: Sequence[Row], orders: PointOrders, wanted: Sequence[int]) -> Known:
+    """What is known of some intervals."""
+    return Known.of(orders, [number for number in wanted if rows[number].kind == "exact"], wanted)
+
+
+def chosen_rows(rows: Sequence[Row], orders: PointOrders, choices: Choices) -> list[int]:
+    """The numbers of the intervals that are drawn."""
+    numbers = {row.name: number for number, row in enumerate(rows)}
+    names = {*choices.rows, *choices.between, *filter(None, [choices.around])}
+    unknown = sorted(names - numbers.keys())
     if unknown:
-        raise CannotRun(f"no interval is called {', '.join(unknown)}, as --rows has it")
-    return [number for number, row in enumerate(rows) if not names or row.name in names]
+        raise CannotRun(f"no interval is called {', '.join(unknown)}")
+    everything = range(len(rows))
+    found = {numbers[name] for name in names} if names else set(everything)
+    if choices.around:
+        found |= neighbours(known_of(rows, orders, everything), dict(enumerate(rows)), numbers[choices.around])
+    if choices.between:
+        first, last = (numbers[name] for name in choices.between)
+        later, earlier = orders.not_before[2 * first], orders.not_after[2 * last + 1]
+        found |= {number for number in everything if later >> 2 * number & 1 and earlier >> (2 * number + 1) & 1}
+    return sorted(found)
 
 
 def linked(timeline: Timeline, wording: Wording) -> Timeline:

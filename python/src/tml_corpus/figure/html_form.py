@@ -1,0 +1,69 @@
+"""A timeline as a part of a page: the picture, whose dates stay in sight, and below it its intervals in words."""
+
+from __future__ import annotations
+
+from collections.abc import Callable
+
+from tml.markup import NOTHING, Markup, Value, element, lined, together
+
+from ..timeline.lettering import plain
+from ..timeline.rows import Row, Timeline
+from .shapes import FILLINGS, Figure
+from .svg_form import drawing, two
+
+STYLE = """
+.picture{overflow:auto;background:#fff;color:#000}.drawn{min-width:44em;position:relative}.drawn svg{display:block;width:100%;height:auto}
+.axis{position:sticky;top:0;height:0;z-index:1;pointer-events:none}.axis svg{background:#fff}
+.row{display:flex;flex-wrap:wrap;gap:0 1em;padding:1px 4px;color:inherit;text-decoration:none;break-inside:avoid}
+.row:nth-child(even){background:var(--odd)}.row .label{flex:0 1 16em}
+.row .label::before{content:"";display:inline-block;width:.7em;height:.7em;
+margin-right:.5em;border:1px solid #000;print-color-adjust:exact}
+.row .around{flex:1 1 14em;color:var(--soft)}.row .around strong{color:var(--ink)}
+.row .name{color:var(--soft)}.row.unasserted .label{font-style:italic}
+g.on,text.on{outline:2px solid #8a1c5c}g.near,text.near{outline:1px dashed #8a1c5c}
+@media screen and (prefers-color-scheme:dark){.picture{filter:invert(1) hue-rotate(180deg)}}
+@media print{.picture{overflow:visible}.drawn{min-width:0}.drawn svg{max-height:calc(100vh - 5em)}.axis{display:none}}
+""" + "".join(
+    f".row.{kind} .label::before{{background:{colour}}}" for kind, (colour, _) in FILLINGS.items()
+)
+"""The picture has the colours of all pictures, of which a dark screen shows the opposite brightness."""
+
+Attributes = dict[str, Value]
+
+
+def in_page(figure: Figure) -> Markup:
+    """The picture, and over it a copy of its dates for where it is scrolled."""
+    copy = element("use", href="#drawn", width=two(figure.width), height=two(figure.height))
+    dates = element("svg", copy, viewBox=f"0 0 {two(figure.width)} {two(figure.axis)}", aria_hidden="true")
+    content = lined(element("div", dates, class_="axis") if figure.axis else NOTHING, drawing(figure, id="drawn"))
+    return element("div", element("div", "\n", content, class_="drawn"), class_="picture")
+
+
+def in_words(timeline: Timeline, name: str, attributes_of: Callable[[int, Row], Attributes]) -> Markup:
+    """The intervals, each as an element of a name with some attributes."""
+    rows = [in_row(row, name, attributes_of(place, row)) for place, row in enumerate(timeline.rows)]
+    return element("div", "\n", lined(*rows), class_="rows", role="group", aria_label="Intervals") if rows else NOTHING
+
+
+def in_row(row: Row, name: str, attributes: Attributes) -> Markup:
+    """One interval: its text and name, and its dates or the words around it."""
+    kinds = f"{attributes.pop('class_', '')} row {row.kind}{' unasserted' if row.unasserted else ''}".strip()
+    parts = element("span", label(row), class_="label"), element("span", beside_label(row), class_="around")
+    return element(name, *parts, class_=kinds, data_interval=row.name, title=row.description(), **attributes)
+
+
+def label(row: Row) -> Markup:
+    """The text and the name of a row; where there is no text the name alone."""
+    text = plain(row.text)
+    name = element("bdi", f"({plain(row.name)})", class_="name")
+    return together(element("bdi", text), " ", name) if text else element("bdi", plain(row.name))
+
+
+def beside_label(row: Row) -> Markup:
+    """Of a time its dates, of an event its text between the words around it."""
+    if row.kind != "event":
+        return element("bdi", row.dates())
+    around = row.around
+    if not (around.before or around.after):
+        return NOTHING
+    return element("bdi", around.before, element("strong", plain(row.text)), around.after)
