@@ -7,7 +7,7 @@ from collections.abc import Callable, Iterable
 from tml.asking import Answerer
 from tml.lines import Ranks
 
-from ..asking.program import File, Program, Reply, believed
+from ..asking.program import Program, Reply, believed
 from ..document.words import Wording
 from ..figure.draw import SCREEN, timeline_figure
 from ..figure.svg_form import on_screen
@@ -22,9 +22,9 @@ class Answering(Program):
         super().__init__("")
         self.by = by
 
-    def ask(self, words: list[str], document: File, other: File | None = None) -> Reply:
-        """The answer about a document in memory."""
-        assert isinstance(document, bytes) and other is None
+    def ask(self, words: list[str], document: bytes, other: bytes | None = None) -> Reply:
+        """The answer about a document alone."""
+        assert other is None
         return believed(Reply(*self.by.answer(words[0], [document]), words[0], len(document)))
 
     def matrix_in_parts(self, document: bytes, take: Callable[[bytes], object]) -> int:
