@@ -26,7 +26,7 @@ use Rattle.order_answers.proofs.OneCounterexample.{one_counterexample}
 
 -- ---- the words
 
--- where each word names something none is reported
+-- if each word names something, none is reported
 named_or_unknown : (contents : PlainDocument) (x rel y text : List ℕ) (a : ℕ) (r : Rel) (b : ℕ) → Name contents x rel y a r b → ReportsUnknown contents x rel y text → ⊥
 named_or_unknown contents x rel y text a r b name (inl h) = h.0 a name.first
 named_or_unknown contents x rel y text a r b name (inr (inl h)) = h.1 r name.relation
@@ -58,7 +58,7 @@ done : (a : ℕ) (r : Rel) (b : ℕ) (net : PlainNet) (status : Status) (text : 
 done a r b net Done text h = refl
 done a r b net status text h = absurd h
 
--- one text where the relation does not follow
+-- one text if the relation does not follow
 one_text : (net : PlainNet) (a : ℕ) (r : Rel) (b : ℕ) (text line : List ℕ) → (Follows net a r b → ⊥) → OfRelation a r b net Done text → OfRelation a r b net Done line → text ≡ line
 one_text net a r b text line fails h (inl proof) = absurd (fails proof.2.2)
 one_text net a r b text line fails h (inr example) = one_counterexample net a r b text line h example

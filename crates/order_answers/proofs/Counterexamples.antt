@@ -29,7 +29,7 @@ module _ (net : PlainNet) (table : Table) (closure : IsClosureOf net table) wher
     in_range : (k : ℕ) → k < length atoms → IsInRange (points net) (atom_at atoms k)
     in_range k lt = All-get_or (IsInRange (points net)) atoms k (record { from = 0; to = 0; strict = false }) lt range
 
-    -- where the table gives all atoms, all always hold
+    -- if the table gives all atoms, all always hold
     pub all_hold : IsFirstNotGiven table atoms None → IsFirst (length atoms) (λ k. AlwaysHolds net (atom_at atoms k)) None
     all_hold all = λ k lt. given_holds net table closure (atom_at atoms k) (in_range k lt) (all k lt)
 
@@ -59,7 +59,7 @@ module _ (net : PlainNet) (table : Table) (closure : IsClosureOf net table) wher
     least = λ u both p less. l.least u ((closure.keeps u).1 both.0, both.1) p (omega (arith, less, closure.size));
   }
 
--- where one of its orders is false a relation is
+-- if one of its orders is false, a relation is
 false_by : (ranks : List ℕ) (a : ℕ) (r : Rel) (b k : ℕ) → k < length (atoms_of a r b) → (Satisfies (timeline_of ranks) (atom_at (atoms_of a r b) k) → ⊥) → IsFalse ranks a r b
 false_by ranks a r b k lt fails = λ holds.
     let t = timeline_of ranks in

@@ -15,7 +15,7 @@ use Rattle.runs.specs.declared.status.Status.TheVariants.{Done}
 use Rattle.clash.proofs.Entailing.{gives_what_follows}
 
 module _ (net : PlainNet) (table : Table) (closure : IsClosureOf net table) where
-  -- the closure entails a relation exactly where it follows
+  -- the closure entails a relation exactly if it follows
   pub entails_follows : (a : ℕ) (r : Rel) (b : ℕ) → a < intervals net → b < intervals net → TableEntails table a r b ↔ Follows net a r b
   entails_follows = gives_what_follows net table closure
 

@@ -1,4 +1,4 @@
--- Where a counterexample is an answer to what is asked of a net, it is the only one.
+-- If a counterexample is an answer to what is asked of a net, it is the only one.
 use Rattle.std.proofs.Common.{◌≡◌, ℕ, List, Some, length, sym, ap, subst, ◌∙◌, inl, inr}
 use Rattle.net_core.specs.Atoms.{Satisfies, atoms_of}
 use Rattle.net_core.specs.Fits.{Fits}

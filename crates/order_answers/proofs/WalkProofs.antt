@@ -38,7 +38,7 @@ module _ (net : PlainNet) (keep : List Bool) (all : keep ≡ replicate (length n
   fits_kept : (t : Timeline) → Fits net t → FitsWith net (Kept keep) t
   fits_kept t fits = fits_fewer net EveryLink (Kept keep) t (λ k lt any. tt) fits
 
-  -- where some timeline fits, an order that always holds has a walk
+  -- if some timeline fits, an order that always holds has a walk
   pub walk_exists : (atom : Atom) → IsNet net → IsInRange (points net) atom → HasTimeline net → AlwaysHolds net atom → HasWalk net (Kept keep) atom.from atom.to atom.strict
   walk_exists atom is range fits always =
       (walks_say_all net keep fits.0 atom.strict atom.from atom.to is (fits_kept fits.0 fits.1) range.0 range.1).0 (λ t other. always t (fits_all t other))

@@ -70,7 +70,7 @@ abbrev pub OfRelation : ℕ → Rel → ℕ → PlainNet → Status → List ℕ
 OfRelation a r b net Done text = ShowsProof net a r b text ⊎ ShowsCounterexample net a r b text
 OfRelation a r b net other text = ⊥
 
--- the law: where a counterexample is an answer, it is the only one
+-- the law: if a counterexample is an answer, it is the only one
 abbrev pub OneCounterexample : Type 0
 OneCounterexample = (net : PlainNet) (a : ℕ) (r : Rel) (b : ℕ) (text line : List ℕ) → OfRelation a r b net Done text → ShowsCounterexample net a r b line → text ≡ line
 

@@ -1,5 +1,5 @@
 pub mod Ask
 pub mod Drill
 pub mod Relations
-pub mod LineStarts
+pub mod LineParts
 pub mod Solve

@@ -36,7 +36,7 @@ OfRelations contents net other text = ⊥
 abbrev pub relations_rows : List ℕ → Rows
 relations_rows name = document_rows (of_net OfRelations) name
 
--- a table entails a relation exactly where it follows, and its rows are the relations that follow
+-- a table entails a relation exactly if it follows, and its rows are the relations that follow
 pub record EntailsWhatFollows (net : PlainNet) (table : Table) : Type 0 where
   pub relations : (a : ℕ) (r : Rel) (b : ℕ) → a < intervals net → b < intervals net → TableEntails table a r b ↔ Follows net a r b
   pub rows : (rows : List Row) → AreRows table rows ↔ AreRelations net rows

@@ -24,7 +24,7 @@ impl DocumentQuery for Ask<'_> {
     ghost says = { λ asked. OfAsk asked.x.now asked.rel.now asked.y.now };
 
     /// Whether the relation holds in every timeline that fits the document: a proof or a counterexample, or a minimal
-    /// clash where no timeline fits, as evidence; or the first word that names nothing.
+    /// clash if no timeline fits, as evidence; or the first word that names nothing.
     fn answer(&self, alloc: Global, document: &Document<'_>) -> Result<Answer, AllocError> {
         let Some(a) = document.index_of(self.x) else {
             return unknown_name(alloc, b"unknown X\n");

@@ -28,7 +28,7 @@ impl DocumentQuery for Solve {
 
     ghost says = { λ _. of_net OfSolve };
 
-    /// The least timeline that fits the document, or a minimal clash where none does, as evidence.
+    /// The least timeline that fits the document, or a minimal clash if none does, as evidence.
     fn answer(&self, alloc: Global, document: &Document<'_>) -> Result<Answer, AllocError> {
         let net = net_of(alloc, document)?;
         match text_of_ranks(alloc, &net)? {
@@ -59,7 +59,7 @@ impl NetQuery for Solve {
     }
 }
 
-/// The text of the least timeline that fits a net, where its ranks settle soon without a table.
+/// The text of the least timeline that fits a net, if its ranks settle soon without a table.
 fn text_of_ranks(alloc: Global, net: &Net) -> Result<Option<Vec<u8>>, AllocError>
     ensures { IfOk result (λ found. IfSome found (λ text. ShowsTimeline net.now text.items)) }
 {

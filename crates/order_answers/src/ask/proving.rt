@@ -46,7 +46,7 @@ fn walks_for(alloc: Global, net: &Net, atoms: Atoms) -> Result<List<Walk>, Alloc
     Ok(walks)
 }
 
-/// A walk over all links for an order that holds in every timeline that fits: where some timeline does, there is one.
+/// A walk over all links for an order that holds in every timeline that fits: if some timeline does, there is one.
 fn walk_for(alloc: Global, net: &Net, keep: &[bool], atom: Atom) -> Result<Walk, AllocError>
     requires net { IsNet net.now }
     requires all { keep.now ≡ replicate (length net.now.links) true }

@@ -1,13 +1,14 @@
-use Rattle.std.proofs.Common.{ℕ, Bor, List, [], map, ◌∙◌, arith}
-use Rattle.std.proofs.lemmas.List.{get_or-map, length-map}
-use Rattle.order_answers.proofs.RowLines.{row_more}
+use Rattle.std.proofs.Common.{ℕ, Bor, List, ap, map, ◌++◌, ◌∙◌, arith}
+use Rattle.std.proofs.lemmas.List.{length-map}
+use Rattle.order_answers.proofs.RowLines.{end_there, row_more}
 use Rattle.order_answers.proofs.relations.push_row.Goals as goal
 
 pub returns-clause-line : goal.returns-clause-line
 returns-clause-line c = λ contents are.
-    let text_of = λ (name : Bor (List ℕ)). name.now in
+    let names = c.args.names.now in
+    let texts = map (λ (name : Bor (List ℕ)). name.now) names in
     let row = c.args.row.now in
-    let many = length-map c.args.names.now text_of in
-    row_more contents (map text_of c.args.names.now) row _ _ c.args.out.now.items _ _ _ are (omega (arith, c.requires.a, many)) (omega (arith, c.requires.b, many))
-    (c.deref.ensures.value ∙ c.in_ok-begin.ensures.text) (get_or-map text_of c.args.names.now row.b _ [] c.requires.b)
-    c.in_ok-extend_from_slice.ensures.items c.in_ok-extend_from_slice-2.ensures.items c.in_ok-push.ensures.items
+    let many = length-map names (λ (name : Bor (List ℕ)). name.now) in
+    let end = end_there names c.args.ends.now row.b _ c.requires.ends c.requires.b c.index-ends-row.is in
+    row_more contents texts row c.args.out.now.items _ _ are (omega (arith, c.requires.a, many)) (omega (arith, c.requires.b, many)) c.in_ok-begin.ensures.text
+    (c.in_ok-extend_from_slice.ensures.items ∙ ap (λ (end : List ℕ). c.begin.new.out.items ++ end) (c.deref.ensures.value ∙ end))

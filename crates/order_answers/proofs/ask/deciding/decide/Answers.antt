@@ -11,7 +11,7 @@ use Rattle.order_closure.specs.Tables.{AreInRange}
 use Rattle.runs.specs.declared.status.Status.TheVariants.{Done}
 use Rattle.order_answers.proofs.ask.deciding.decide.Goals as goal
 
--- where the table gives all orders of the relation, all always hold
+-- if the table gives all orders of the relation, all always hold
 pub proof_text-requires-clause-always : goal.proof_text-requires-clause-always
 proof_text-requires-clause-always c =
     let net = c.args.net.now in
