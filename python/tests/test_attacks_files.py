@@ -38,7 +38,7 @@ class Files(AttackTest):
         os.makedirs(self.path("made"))
         rows = [
             ("tml-corpus clashes --tml TML --evidence kept clash.xml", "kept", 60, "the evidence cannot be kept: file too large"),
-            ("tml-corpus timeline --tml TML good.xml -o made/good.svg", "made", 1000, "made/good.svg cannot be written: file too large"),
+            ("tml-corpus timeline --tml TML good.xml -o made/good.svg", "made", 200, "made/good.svg cannot be written: file too large"),
             ("tml-corpus report --tml TML good.xml -o made", "made", 60, "made/report.css cannot be written: file too large"),
             ("from-tempeval2 in made", "made", 20, "a: not written: made/a.xml cannot be written: file too large"),
         ]

@@ -220,10 +220,15 @@ class Clashes(FigureTest):
         self.assertEqual(self.run_it("timeline", "--bare", "d.xml", "-o", "d.svg")[1][-1], "d.xml: its first clash is drawn in d.svg")
 
     def test_one_link_and_many(self) -> None:
-        ring = "".join(link(number, "BEFORE", (number + 1) % 40) for number in range(40))
-        for content, count in ((event(1) + link(1, "BEFORE", 1), 2), ("".join(map(event, range(40))) + ring, 80)):
+        def ring(count: int) -> str:
+            return "".join(map(event, range(count))) + "".join(link(number, "BEFORE", (number + 1) % count) for number in range(count))
+
+        for content, points, steps in ((event(1) + link(1, "BEFORE", 1), 2, 1), (ring(3), 3, 3), (ring(12), 12, 12), (ring(13), 0, 13)):
             picture = self.made(document(content), status=1)
-            self.assertEqual(picture.count('height="4.4"'), count)
+            said = " ".join(self.texts(picture))
+            self.assertEqual(picture.count('height="4.4"'), points)
+            self.assertEqual(said.count("since x BEFORE x"), steps)
+            self.assertEqual("an interval starts before it ends" in said, points == 2)
 
     def test_a_fault_has_no_picture(self) -> None:
         self.write("d.xml", "<TimeML><EVENT/></TimeML>")

@@ -116,7 +116,7 @@ class Keystrokes(unittest.TestCase):
         found = tally(self.program, SLIPS, SEED)
         counts = found.all()
         self.assertEqual([one for one in found.notable if one.startswith(("damage", "other"))], [])
-        self.assertGreaterEqual(share(counts, "restored"), 0.88, counts)
+        self.assertGreaterEqual(share(counts, "restored"), 0.87, counts)
         asked = ("question with the original", "question without it", "no candidate")
         self.assertGreaterEqual(share(counts, asked[0], of=asked), 0.99, found.notable)
         seconds = sorted(found.seconds)

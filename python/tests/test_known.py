@@ -71,7 +71,10 @@ class Nets(unittest.TestCase):
                 for place in known.axis:
                     self.assertEqual(len({ranks[point] for point in place}), 1, net)
                 self.assertEqual([ranks[place[0]] for place in known.axis], sorted({ranks[place[0]] for place in known.axis}), net)
-            self.assertEqual(len(known.axis), longest(net, timelines, exact if is_tied(net, timelines, exact) else []), net)
+            places = longest(net, timelines, exact if is_tied(net, timelines, exact) else [])
+            pairs = [pair for pair in itertools.combinations(range(net.points()), 2) if pair[0] // 2 != pair[1] // 2]
+            is_free = all({"<", ">"} <= signs(timelines, *pair) for pair in pairs)
+            self.assertEqual(len(known.axis), len(exact) if is_free else places, net)
 
     def test_bounds(self) -> None:
         count = 0

@@ -141,6 +141,9 @@ class InABrowser(PageTest):
             self.assertIn("while it was closed", browser.value("document.querySelector('#row6 .around').innerText"))
             self.assertLessEqual(browser.value(f"{box}.right"), 400)
             self.assertGreater(browser.value(f"{box}.width"), 150)
+            browser.value("document.querySelector('main').scrollTo(300, 0)")
+            self.assertGreater(browser.value("document.querySelector('main').scrollLeft"), 200)
+            self.assertTrue(browser.value(f"{box}.left >= 0 && {box}.right <= 400"), "they stay as the picture is scrolled")
             self.assertLessEqual(browser.value("document.documentElement.scrollWidth"), 400)
 
 

@@ -6,7 +6,7 @@ What a step says of two points is looked up in the table of docs/DEFINITIONS.md.
 from __future__ import annotations
 
 from collections.abc import Sequence
-from dataclasses import dataclass
+from dataclasses import dataclass, replace
 
 from tml.lines import Step
 from tml.statuses import ORDERS
@@ -14,6 +14,8 @@ from tml.statuses import ORDERS
 from ..asking.program import CannotRun
 from ..document.words import Wording
 from .search import is_equal_end
+
+SPAN = "since an interval starts before it ends"
 
 
 @dataclass(frozen=True)
@@ -27,20 +29,36 @@ class WalkStep:
     relation: str = ""
     """The relation of its link, or by what else it goes."""
 
+    def is_span(self) -> bool:
+        """Whether it leads from the start of an interval to its end, and goes by nothing else."""
+        return self.reason == SPAN
+
+    def with_next(self, other: WalkStep) -> WalkStep:
+        """This step and the next one as one, of which one is strict."""
+        said = other if self.is_span() else self
+        return replace(said, first=self.first, second=other.second, strict=True)
+
 
 def steps_in_words(wording: Wording, walk: Sequence[Step]) -> list[WalkStep]:
-    """The steps of a walk, each of which begins where the one before it ends."""
+    """The steps of a walk, each of which begins where the one before it ends. That an interval starts before it ends is no step of its own,
+    but part of the next one, or at the end of the walk of the one before it.
+    """
     steps = [step_in_words(wording, step) for step in walk]
-    joined = zip(steps, steps[1:] + steps[:1], strict=True)
-    if not all(one.second == other.first for one, other in joined) or not any(step.strict for step in steps):
+    pairs = zip(steps, steps[1:] + steps[:1], strict=True)
+    if not all(one.second == other.first for one, other in pairs) or not any(step.strict for step in steps):
         raise CannotRun("the walk that tml printed cannot be read")
-    return steps
+    joined: list[WalkStep] = []
+    for step in steps:
+        if joined and (joined[-1].is_span() or step.is_span() and step is steps[-1]) and len(steps) > 2:
+            step = joined.pop().with_next(step)
+        joined.append(step)
+    return joined
 
 
 def step_in_words(wording: Wording, step: Step) -> WalkStep:
     """One step, by a link, by the calendar, or from the start of an interval to its end."""
     if step.kind == "span":
-        return WalkStep(2 * step.first, 2 * step.first + 1, True, "since an interval starts before it ends")
+        return WalkStep(2 * step.first, 2 * step.first + 1, True, SPAN)
     if step.kind == "calendar":
         _, text = wording.calendar(step.first, step.second)
         return WalkStep(step.first, step.second, not is_equal_end(wording, step.first, step.second), f"since {text}", "calendar")

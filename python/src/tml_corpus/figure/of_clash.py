@@ -11,27 +11,32 @@ from ..timeline.lettering import fitted, in_lines, measured, plain
 from .shapes import LABEL, SMALL, Box, Figure, Line, Point, Shape, Text
 
 EDGE, LEADING = 3.0, 9.0
-MOST_NAMED = 16
-"""How many points of a ring have words beside them at most; the lines below tell of more."""
+MOST = 12
+"""How many steps a ring has at most; lines tell of more."""
 
 
 def figure_of(title: str, wording: Wording, steps: Sequence[WalkStep], width: float, *, has_lines: bool = True) -> Figure:
     """The picture of the steps of a walk, which ends where it began; perhaps without the lines of words."""
-    figure = Figure(width, f"Clash of {plain(title)}")
-    is_named = len(steps) <= MOST_NAMED
-    radius = min(max(34.0, len(steps) * 15 / (2 * math.pi)), width / 2 - (60 if is_named else 12))
-    centre = (width / 2, EDGE + radius + (14 if is_named else 8))
+    figure = Figure(width, f"Clash of {plain(title)}", height=EDGE)
+    if len(steps) <= MOST:
+        put_ring(figure, wording, steps, width)
+    if has_lines:
+        put_lines(figure, wording, steps, figure.height + 8)
+    return figure
+
+
+def put_ring(figure: Figure, wording: Wording, steps: Sequence[WalkStep], width: float) -> None:
+    """The points of a walk with their words, and its steps as arrows."""
+    radius = min(max(34.0, len(steps) * 15 / (2 * math.pi)), width / 2 - 60)
+    centre = (width / 2, EDGE + radius + 14)
     points = [at(centre, radius, number / len(steps)) for number in range(len(steps))]
     for number, step in enumerate(steps):
         figure.shapes += arrow(centre, radius, number, len(steps), step.strict)
     figure.shapes += [Box(x - 2.2, y - 2.2, 4.4, 4.4, "known", 2.2) for x, y in points]
-    if is_named:
-        for step, point in zip(steps, points, strict=True):
-            figure.shapes += named(point_in_words(wording, step.first), centre, point, width)
-    figure.height = centre[1] + radius + (14 if is_named else 6)
-    if has_lines:
-        put_lines(figure, wording, steps, figure.height + 8)
-    return figure
+    figure.shapes += [
+        one for step, point in zip(steps, points, strict=True) for one in named(point_in_words(wording, step.first), centre, point, width)
+    ]
+    figure.height = centre[1] + radius + 14
 
 
 def at(centre: Point, radius: float, turn: float) -> Point:

@@ -103,13 +103,13 @@ def clash_part(wording: Wording, words: Words, clash: PlacedClash, number: int) 
     cure = "This link is wrong" if is_one else "Any one of these links, left out, lets the others be true; one of them is wrong"
     notes = (element("li", at(note.place), ": ", coded(note.text)) for note in clash.calendar + clash.dates + clash.cures)
     steps = steps_in_words(wording, clash.walk)
-    first = point_part(wording, steps[0].first)
+    first, ring = point_part(wording, steps[0].first), of_clash.figure_of(title, wording, steps, RING, has_lines=False)
     content = lined(
         element("h3", f"Clash {number}: {title}"),
         listed(*(element("li", link_reference(link), source_part(link.source)) for link in clash.links), kind="cited"),
         listed(*notes),
         element("p", "Why: each step leads to a point that cannot be earlier.", class_="why"),
-        element("div", drawing(of_clash.figure_of(title, wording, steps, RING, has_lines=False)), class_="ring"),
+        element("div", drawing(ring), class_="ring") if ring.shapes else NOTHING,
         element("ol", "\n", lined(*(step_part(wording, words, step) for step in steps)), class_="walk"),
         element("p", "So ", first, f" would be before itself, which cannot be. {cure}, or a date that a step goes by is.", class_="end"),
     )

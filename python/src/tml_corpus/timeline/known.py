@@ -6,7 +6,7 @@ One point is *before* another if it is before it in every timeline, and *never a
 
 - **The axis** is a row of *places*. A place is a point and all points that are together with it, and each place is before the next
   one. Every start and end of an exact date has a place, unless no other interval is ordered with any of these. There is no such row
-  with more places. An event that is ordered with no other interval has none: then there is no axis, or that of the one exact date.
+  with more places. If no two intervals are ordered, there is no axis, or only that of the exact date.
 - **Bounds.** The *lower* bound of a point is the last place that is never after it, and its *upper* bound the first place that it is
   never after. A bound is *strict* if the two are never together. Either may be missing. Both are its own place if it has one.
 - **A bar** reaches from the lower bound of its start to the upper bound of its end: its interval lies nowhere else. It is solid from
@@ -120,13 +120,17 @@ class Sets:
         row: list[int] = []
         for some in reversed(ends):
             fitting = some & order.before[row[-1]] if row else some
-            row.append(max(members(fitting), key=lambda point: (order.placed(point).bit_count(), -point)))
+            row.append(max(members(fitting), key=lambda point: (order.placed(point).bit_count(), self.ordered(point).bit_count(), -point)))
         return list(members(dates)) if self.is_alone(row) else row[::-1]
 
     def is_alone(self, row: list[int]) -> bool:
         """Whether some points are of one interval, and no other interval is ordered with them."""
         others = self.chosen & ~sum(1 << point | 1 << (point ^ 1) for point in row[:1])
-        return not any((self.of.not_before[point] | self.of.not_after[point]) & others for point in row)
+        return not any(self.ordered(point) & others for point in row)
+
+    def ordered(self, point: int) -> int:
+        """The points that are never before a point, or never after it."""
+        return (self.of.not_before[point] | self.of.not_after[point]) & self.chosen
 
     def orders_beyond(self, axis: list[int]) -> Iterator[Order]:
         """The orders that neither the axis nor others say."""

@@ -25,9 +25,10 @@ STYLE = (
 html,body{height:100%}
 body{margin:0;display:flex;flex-direction:column;background:var(--paper);color:var(--ink);
 font:14px/1.45 "DejaVu Sans",Verdana,Helvetica,Arial,sans-serif}
-main{flex:1;overflow:auto;min-height:0;padding:0 16px}h1,noscript p{margin:8px 0;position:sticky;left:0}
-.picture{overflow:visible;width:max-content;min-width:100%;max-width:1200px}
-.drawn{width:calc(100vw - 32px);max-width:1200px;min-width:900px}
+main{flex:1;overflow:auto;min-height:0;padding:0 16px;display:grid;grid-template-columns:max-content;align-content:start}
+h1,.rows,noscript p{position:sticky;left:0;justify-self:start;margin:8px 0;box-sizing:border-box}
+h1,noscript p{max-width:calc(100vw - 32px)}.rows{width:min(1200px,calc(100vw - 32px))}
+.picture{overflow:visible}.drawn{width:calc(100vw - 32px);max-width:1200px;min-width:900px}
 h1{font-size:1.3em;overflow-wrap:anywhere}
 #links{max-height:32vh;overflow:auto;padding:8px 16px;border-top:2px solid var(--strong);columns:28em;font-size:13px}
 #links div{break-inside:avoid;padding-left:1.5em;text-indent:-1.5em;overflow-wrap:anywhere}#links div:first-child{font-weight:bold}
@@ -37,10 +38,10 @@ h1{font-size:1.3em;overflow-wrap:anywhere}
 .row{cursor:pointer}.row.dim{display:none}.row.on{background:var(--mark)}.row.near{background:var(--near)}
 .row:focus-visible,main:focus-visible,#links:focus-visible{outline:3px solid var(--strong);outline-offset:-3px}
 .row.on .name,.row.on .around{color:var(--ink)}
-.rows{max-width:1200px}g.dim,text.dim{opacity:.15}
+g.dim,text.dim{opacity:.15}
 .link{fill:none;stroke:#8a1c5c;stroke-width:.8}.relation{font-size:6px;fill:#8a1c5c;stroke:#fff;stroke-width:1.5;paint-order:stroke}
 #arrow{fill:#8a1c5c}
-@media print{@page{size:landscape}html,body{display:block;height:auto}main{overflow:visible}#links,#tools{display:none}
+@media print{@page{size:landscape}html,body,main{display:block;height:auto}main{overflow:visible}.rows{width:auto}#links,#tools{display:none}
 h1{break-after:avoid;position:static}.drawn{width:auto;min-width:0}}
 """
 )
