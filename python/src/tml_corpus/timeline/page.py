@@ -41,8 +41,8 @@ h1{font-size:1.3em;overflow-wrap:anywhere}
 g.dim,text.dim{opacity:.15}
 .link{fill:none;stroke:#8a1c5c;stroke-width:.8}.relation{font-size:6px;fill:#8a1c5c;stroke:#fff;stroke-width:1.5;paint-order:stroke}
 #arrow{fill:#8a1c5c}
-@media print{@page{size:landscape}html,body,main{display:block;height:auto}main{overflow:visible}.rows{width:auto}#links,#tools{display:none}
-h1{break-after:avoid;position:static}.drawn{width:auto;min-width:0}}
+@media print{@page{size:landscape}html,body,main{display:block;height:auto}main{overflow:visible}.rows{width:auto}
+#links,#tools{display:none}h1{break-after:avoid;position:static}.drawn{width:auto;min-width:0}}
 """
 )
 
