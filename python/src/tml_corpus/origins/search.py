@@ -11,6 +11,7 @@ from typing import NamedTuple
 from tml.explaining import faults
 from tml.explaining.faults import Fault
 from tml.tags.profile import IDENTIFIERS, LINK_TAGS, TABLE
+from tml.tags.values import has_form
 
 from .draft import BROKEN, NOWHERE, SPACE, TAG, Draft, Tag, tags_of_units
 from .keyboard import MEANT, TYPED, Keystroke, Slip, undone
@@ -149,6 +150,11 @@ def is_near(name: str, other: str) -> bool:
     return len(typed) + len(meant) == 1 or (len(typed) == 2 and meant == typed[::-1])
 
 
+def has_a_time(tag: Tag) -> bool:
+    """Whether the value of a tag, if it is a time with one, is a value of times: anything else is no date, and so no fault."""
+    return tag.name != "TIMEX3" or all(has_form(value) for name, value in tag.pairs if name == "value")
+
+
 class Search:
     """The search for the origins of one document."""
 
@@ -194,6 +200,8 @@ class Search:
             if tags is None and alike[1] and not OTHER_MARKUP.search(origin.stretch):
                 broken.add(alike)
             elif tags is not None and not BAD_REFERENCE.search(NOT_TEXT.sub("", origin.stretch)):
+                if self.fault.number == faults.BAD_DATE and not all(map(has_a_time, tags)):
+                    continue
                 first, last = self.draft.within(origin.start, origin.end)
                 calm = self.draft.calm_names(origin.start, origin.end, key.start, key.end)
                 if all(self.draft.is_known(tag, first, last, calm) for tag in tags):
