@@ -360,6 +360,9 @@ class Choice:
                     continue
                 if row.form.kind is Kind.LISTED:
                     yield was in MEANT_ELSEWHERE
+                if row.form.kind is Kind.TEXT:
+                    # A date that no calendar has may have been written in another order.
+                    yield True
                 if row.form.kind is Kind.REFERENCE:
                     shapes = {shape(one) for kind, one in self.draft.declared if kind == row.form.target}
                     is_needed = name == "eventID" and (row.form.target, value) not in self.draft.referred
