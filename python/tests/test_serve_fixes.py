@@ -172,7 +172,7 @@ class Choices(CorpusTest):
             ("<?x y?>a", ["a"]),
             ("<!-- a\nb", ["<!-- a-->\nb"]),
             ('<s x class="a">b</s>', ['<s class="a">b</s>']),
-            ("<s>b</s x>", ["<s>b</s>"]),
+            ("<s>b</s x>", ["<s>b</s >"]),
         ):
             with self.subTest(inner):
                 self.titles(document(inner), inner.split("\n")[0])
