@@ -237,7 +237,7 @@ class Choice:
             return Restored(best[0])
         likely += rivals
         unlikely = [origin for origin, found in zip(best, blemishes, strict=True) if found and not found["markup in text"]]
-        return Question(likely, tuple(unlikely))
+        return Question(likely, tuple(unlikely if likely or unlikely else best))
 
     def is_chance(self, origin: Origin, exchanged: set[int]) -> bool:
         """Whether an origin needs a chance if two characters may have been exchanged at the edge of a tag or value, by the places of the

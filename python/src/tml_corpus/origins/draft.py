@@ -115,6 +115,8 @@ class Draft:
         self.steps: dict[tuple[int, str], int] = {}
         self.above: list[tuple[int, str]] = [(BROKEN, "")]
         """For each path that is not empty the one without its last tag, and the name of that tag."""
+        self.named: dict[tuple[int, int], list[tuple[int, int, str]]] = {}
+        """For each stretch that was looked at from where to where the names of attributes are in it."""
 
     def entered(self, path: int, name: str) -> int:
         """A path with one more open tag."""
@@ -242,7 +244,9 @@ class Draft:
 
     def calm_names(self, start: int, end: int, first: int, last: int) -> set[str]:
         """The names of attributes in a stretch that a keystroke from a first to a last place neither changes nor touches."""
-        return {one[1] for one in NAMED.finditer(self.text, start, end) if last < one.start() or one.end(1) < first}
+        if (start, end) not in self.named:
+            self.named[start, end] = [(one.start(), one.end(1), one[1]) for one in NAMED.finditer(self.text, start, end)]
+        return {name for begin, until, name in self.named[start, end] if last < begin or until < first}
 
 
 def may_be(name: str, kind: str, pairs: tuple[tuple[str, str], ...]) -> bool:
