@@ -94,6 +94,7 @@ ALONE = (
     ('<s><EVENT eid="e1" class="STATE">is</EVENT>/</s>', '<s><EVENT eid="e1" class="STATE">is</EVENT><//s>'),
     ('<EVENT eid="e1" class="STATE" stem="be">is</EVENT>', '<EVENT eid="e1" class="STATE"s tem="be">is</EVENT>'),
     ('<EVENT eid="e1" class="STATE"  stem="be">is</EVENT>', '<EVENT eid="e1" class="STATE" s tem="be">is</EVENT>'),
+    ('<TIMEX3 tid="t1" type="DATE" value="1998-1-7">then</TIMEX3>', '<TIMEX3 tid="t1" type="DATE" valu=e"1998-1-7">then</TIMEX3>'),
     ('<ENAMEX TYPE="PERSON" ID="3">Lee</ENAMEX>', "<ENAMEX TYPE='PERSON\" ID=\"3\">Lee</ENAMEX>"),
     ('<EVENT eid="e1" class="STATE" stem="go" pos="V">is</EVENT>', '<EVENT eid="e1" class="STATE" stem=\'go" pos="V">is</EVENT>'),
     ('<TIMEX3 tid="t1" type="SET" value="P1D" freq= "">1998</TIMEX3>', '<TIMEX3 tid="t1" type="SET" value="P1D" freq=b"">1998</TIMEX3>'),

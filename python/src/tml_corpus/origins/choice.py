@@ -147,6 +147,11 @@ def is_odd(tag: str, name: str, value: str) -> bool:
     return ODD.search(value) is not None or (tag == "TIMEX3" and name == "value" and not has_form(value))
 
 
+def is_quoted(value: str, text: str) -> bool:
+    """Whether a value is somewhere in a text between quotes."""
+    return f'"{value}"' in text or f"'{value}'" in text
+
+
 def in_order(text: str) -> str:
     """A text with single spaces for the white space in its comments and declarations."""
     return NOT_TEXT.sub(lambda found: " ".join(found[0].split()), text)
@@ -340,12 +345,8 @@ class Choice:
             yield from IN_TEXT
         if self.style.has_sign:
             yield "markup in text"
-        if all(re.search(f"[\"']{re.escape(tag.identifier())}[\"']", was) for tag in tags if tag.identifier()):
+        if all(is_quoted(tag.identifier(), was) for tag in tags if tag.identifier()):
             yield "identifier"
-        if all(
-            re.search(f"[\"']{re.escape(value)}[\"']", was) for tag in tags for name, value in tag.pairs if is_odd(tag.name, name, value)
-        ):
-            yield "odd value"
 
     def may_be_meant(self, origin: Origin) -> Iterator[bool]:
         """For each changed value, whether it may have been meant: as one of another scheme, or as the identifier of a tag that was lost."""
@@ -371,7 +372,7 @@ class Choice:
     def unlikely(self, part: str, low: int, high: int, named: set[str], looks_at: Callable[[int, int], bool]) -> Iterator[str]:
         """What is unlikely in a part that is there in place of a stretch: in its text, and about tags and edges of tags in places that
         are looked at."""
-        first, last = self.draft.within(low, high)
+        (first, last), was = self.draft.within(low, high), self.draft.text[low:high]
         path, at, before = self.draft.before[first], 0, ""
         following = self.draft.tags[last].name if last < len(self.draft.tags) else ""
         padded = (self.draft.text[low - 1 : low] or " ") + part + (self.draft.text[high : high + 1] or " ")
@@ -387,6 +388,8 @@ class Choice:
                 yield from self.of_tag(tag, part + padded[-1], left, right)
                 known = {*TABLE.get(tag.name, ()), *self.style.by_name[tag.name][tag.kind].attributes, *named}
                 yield from ["name"] * sum(name not in known for name, _ in tag.pairs)
+                if any(is_odd(tag.name, name, value) and not is_quoted(value, was) for name, value in tag.pairs):
+                    yield "odd value"
             if tag.kind == "start" and path > 0 and tag.name in self.draft.names(path) and tag.name not in self.style.nested:
                 yield "nested"
             if tag.name:
@@ -411,8 +414,6 @@ class Choice:
         of_kind = self.style.by_kind[tag.kind, purpose(tag.name)]
         if SPACED_END.search(part, tag.start, tag.end) and of_kind.count and not of_kind.is_spaced:
             yield "shape"
-        if any(is_odd(tag.name, name, value) for name, value in tag.pairs):
-            yield "odd value"
         if tag.name not in TABLE and not any(one.count for one in named.values()):
             yield "tag"
         if self.style.has_other_shape(tag):
