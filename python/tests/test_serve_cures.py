@@ -55,7 +55,7 @@ EXAMPLES = {
     "a processing instruction is not read: delete <?{} .. ?>": document("<?x y?>a"),
     "no space is allowed after </: write </{}>": document("<s>a</ s>"),
     "this end tag has no >: write </{}>": document("<s>a</s\n<s>b</s>"),
-    "an end tag has only its name: write </{}>": document("<s>b</s x>"),
+    "an end tag has only its name: write </{}>": document("<s>b</s xy>"),
     "{}, which nobody sees, is here: write a space for it": document(EVENT.replace(" eid", "\u00a0eid")),
     "the file ends with a <: write &lt;, or see whether its end was lost": document("a") + "<",
     "< appears twice: delete one of the two": document("<" + EVENT),

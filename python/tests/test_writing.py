@@ -40,8 +40,7 @@ ELSEWHERE = {
     "tml_corpus/command_line/output.py: os.open(os.devnull, os.O_RDWR)",
     "tml_corpus/command_line/output.py: os.open(os.devnull, os.O_WRONLY)",
     "tml_corpus/command_line/output.py: io.FileIO(INPUT, closefd=False)",
-    "tml_corpus/files/finding.py: open(file.fileno(), 'rb', closefd=False)",
-    "tml_corpus/files/finding.py: os.fdopen(handle, 'rb', buffering=0)",
+    "tml_corpus/files/finding.py: open(handle_of(path)[0], 'rb')",
     "tml_corpus/files/finding.py: os.open(path, os.O_RDONLY | os.O_NONBLOCK | os.O_CLOEXEC)",
     "tml_corpus/files/writing.py: os.mkdir(folder, 448)",
 }
