@@ -1,0 +1,33 @@
+# swap of > with the first letter of the text
+for tag,first in [("s","A man"),("s","We met"),("s","Early on"),("S","A man"),("S","We met"),("p","On Monday"),("P","Last week"),("P","On Monday"),("s","Zed"),("p","Oil rose"),("TITLE","Rates rose"),("TITLE","War"),("HEADLINE","Sales up"),("DCT","5 Jan"),("ENAMEX","Zog"),("s","a man")]:
+    try_("swap >first", "<%s>%s x</%s>"%(tag,first,tag), "<%s%s>%s x</%s>"%(tag,first[0],first[1:],tag))
+# text glued behind end tags
+for tag,nx in [("EVENT","Y"),("EVENT","y"),("EVENT","r"),("TIMEX3","2"),("SIGNAL","k"),("EVENT","/")]:
+    o={"EVENT":E1,"TIMEX3":'<TIMEX3 tid="t1" type="DATE">',"SIGNAL":'<SIGNAL sid="s1">'}[tag]
+    try_("swap >next", "x "+o+"fell</%s>%sb c"%(tag,nx), "x "+o+"fell</%s%s>b c"%(tag,nx))
+try_("and/or lost >", E1+"killed</EVENT>/"+E2+"wounded</EVENT> x", E1+"killed</EVENT/"+E2+"wounded</EVENT> x")
+try_("and/or swap >/", E1+"killed</EVENT>/"+E2+"wounded</EVENT> x", E1+"killed</EVENT/>"+E2+"wounded</EVENT> x")
+try_("and/or lost <", E1+"killed</EVENT>/"+E2+"wounded</EVENT> x", E1+"killed</EVENT>/"+E2[1:]+"wounded</EVENT> x")
+try_("and/or swap </", E1+"killed</EVENT>/"+E2+"wounded</EVENT> x", E1+"killed</EVENT><"+"/"+E2[1:]+"wounded</EVENT> x")
+try_("w/</ lost /", E1+"and/</EVENT> x", E1+"and/<EVENT> x")
+try_("s/ lost /", "<s>x a/</s>", "<s>x a/<s>")
+try_("> /</s>", "<s>x "+E1+"fell</EVENT>/</s>", "<s>x "+E1+"fell</EVENT><//s>")
+try_("lost > before /s", "x "+E1+"fell</EVENT>/s b", "x "+E1+"fell</EVENT/s b")
+try_("lost > before -", "x "+E1+"fell</EVENT> - b", "x "+E1+"fell</EVENT - b")
+try_("lost > before space", "x "+E1+"fell</EVENT> b", "x "+E1+"fell</EVENT b")
+try_("swap '> b'", "x "+E1+"fell</EVENT> b", "x "+E1+"fell</EVENTb> b".replace("b> b"," b>"))
+try_("comment swap", "<!-- x -->Prices", "<!-- x --P>rices")
+try_("comment swap0", "<!-- x -->0 b", "<!-- x --0> b")
+try_("comment lost >", "<!-- x -->Prices > b", "<!-- x --Prices > b")
+try_("attr swap", "x "+E1[:-1]+' source="a b">fire</EVENT>', "x "+E1[:-2]+'"s ource="a b">fire</EVENT>')
+try_("attr swap2", "x "+E1[:-1]+'  source="a b">fire</EVENT>', "x "+E1[:-1]+' s ource="a b">fire</EVENT>')
+try_("attr extra space", "x "+E1[:-1]+' comment="a b">fire</EVENT>', "x "+E1[:-1]+' c omment="a b">fire</EVENT>')
+try_("attr extra space", "x "+E1[:-1]+' stem="say">fire</EVENT>', "x "+E1[:-1]+' st em="say">fire</EVENT>')
+try_("attr extra space", "x "+E1[:-1]+' n="say">fire</EVENT>', "x "+E1[:-1]+' nm ="say">fire</EVENT>')
+try_("nl swap", "<s>a</s>\n<s>b</s>", "<s>a</s>\n<s>b</s>".replace("</s>\n<s>","</s><\ns>"))
+try_("nl swap2", "<p/>\n<s>b</s>", "<p/\n><s>b</s>")
+try_("sp swap", "a <s>b</s> c", "a< s>b</s> c")
+try_("sp swap", "a "+E1+"b</EVENT> c", "a< "+E1[1:]+"b</EVENT> c")
+try_("sp extra", "a"+E1+"b</EVENT> c", "a< "+E1[1:]+"b</EVENT> c")
+try_("sp after </", "a "+E1+"b</EVENT> c", "a "+E1+"b< /EVENT> c")
+try_("swap sp </", "a "+E1+"b </EVENT> c", "a "+E1+"b< /EVENT> c")
