@@ -13,7 +13,7 @@ use net_orders::{Order, atoms_of_link, nth_order, orders_of, settle_without};
 use std::alloc::Global;
 use walks::walk;
 
-/// How many turns more ranks are given to settle where a sequence that serves was not enough.
+/// How many turns more ranks are given to settle if a sequence that serves was not enough.
 pub const TURNS: u32 = 0;
 
 /// A walk from a point to itself with a strict step, a mark for each link that it goes over, and the orders that its steps
@@ -39,8 +39,8 @@ impl ClosedWalk {
         Ok(ClosedWalk { walk, over, orders })
     }
 
-    /// The least ranks that fit with the links that the walk goes over, but one, where they settle in this number of turns. They
-    /// do in all turns that there are where any fit.
+    /// The least ranks that fit with the links that the walk goes over, but one, if they settle in this number of turns. They
+    /// do in all turns that there are if any fit.
     pub fn spare(
         &self,
         alloc: Global,
@@ -71,7 +71,7 @@ impl ClosedWalk {
         }
     }
 
-    /// Takes another walk, that does not go over a link, where there is one over the others. Another link is needed:
+    /// Takes another walk, that does not go over a link, if there is one over the others. Another link is needed:
     /// without it some timeline fits.
     fn leave_out(
         &mut self,
@@ -135,7 +135,7 @@ pub fn thin(
     Ok(closed)
 }
 
-/// A closed walk over links that are kept. None comes only where no such walk goes over the link of this number.
+/// A closed walk over links that are kept. None comes only if no such walk goes over the link of this number.
 ///
 /// # Errors
 ///

@@ -59,7 +59,7 @@ impl From<Memory> for CloseFault {
 ///
 /// # Errors
 ///
-/// `Clash` comes exactly where no timeline fits. It is minimal, and proves itself.
+/// `Clash` comes exactly when no timeline fits. It is minimal, and proves itself.
 pub fn close(alloc: Global, net: &Net) -> Result<Closed, CloseFault>
     ensures ok { IfOk result (IsClosureOf net.now) }
     ensures few { IfOk result (λ table. table.points ≤ max_points) }
@@ -105,7 +105,7 @@ fn in_sequence(alloc: Global, net: &Net, fixed: &[Atom]) -> Result<Option<Closed
     Ok(table)
 }
 
-/// The table of what is true of every timeline that satisfies some orders, added in a sequence. None comes where they deny
+/// The table of what is true of every timeline that satisfies some orders, added in a sequence. None comes if they deny
 /// one another.
 fn closure_of(
     alloc: Global,

@@ -35,7 +35,7 @@ pub fn spares_of(
     Ok(spares)
 }
 
-/// The same where all ranks settle soon: then each of these links is needed.
+/// The same if all ranks settle soon: then each of these links is needed.
 ///
 /// # Errors
 ///

@@ -12,11 +12,11 @@ use crate::sequence::sequence_of;
 use net_core::{Atom, Memory, Net, Ranks};
 use std::alloc::Global;
 
-/// How many turns ranks are given to settle. Where no orders lead round they settle in one; of thousands of links, of which
+/// How many turns ranks are given to settle. If no orders lead round they settle in one; of thousands of links, of which
 /// many put points together, most do in fewer than sixteen.
 const TURNS: u32 = 32;
 
-/// The least timeline that fits a net, where its ranks settle soon. None comes mostly where no timeline fits.
+/// The least timeline that fits a net, if its ranks settle soon. None comes mostly if no timeline fits.
 ///
 /// # Errors
 ///

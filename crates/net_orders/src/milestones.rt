@@ -18,8 +18,8 @@ use walks::{Date, lowers_of, uppers_of};
 /// The orders that hold without any link, those of the calendar by way of *milestones*: further points, one for each point
 /// with a lower number. A milestone is no later than its point, nor than the next milestone. A point with an upper number is
 /// no later than the first milestone from that number on, and before the first one past it. So there are at most five orders
-/// for each point, where pairs of points can be as many as the square of these. From the last back they come in the course of
-/// the calendar, so that ranks that they raise mostly settle in one turn.
+/// for each point, though there can be as many pairs of points as the square of their number. Those that leave the last point in
+/// the course of the calendar come first, so that ranks that they raise mostly settle in one turn.
 ///
 /// # Errors
 ///
@@ -231,7 +231,7 @@ fn place(point: usize, place: (usize, u8), places: &mut [(usize, u8)])
     }
 }
 
-/// Puts the orders that leave the last point in the course of the calendar first.
+/// Sorts orders by the points that they leave: those that leave the last point in the course of the calendar come first.
 fn sort_by_places(orders: &mut [Atom], places: &[(usize, u8)])
     ensures { IsPermutation orders.old orders.new }
 {

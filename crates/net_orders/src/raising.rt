@@ -9,7 +9,7 @@ ghost use Rattle.std.specs.Prelude.{length, ◌<◌};
 use crate::orders::Order;
 use net_core::{Atom, MAX_POINTS};
 
-/// Raises the rank of the second point of an order, where it is too low. The highest rank that is given is the number of
+/// Raises the rank of the second point of an order, if it is too low. The highest rank that is given is the number of
 /// points that there can be: ranks that fit are below it, if any do.
 pub fn raise(ranks: &mut [u32], atom: Atom)
     requires in_range { IsInRange (length ranks.old) atom }

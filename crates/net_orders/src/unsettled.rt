@@ -13,7 +13,7 @@ const TURNS: u32 = 8;
 /// How many orders are tried at first.
 const FIRST_STEP: usize = 64;
 
-/// A link with which ranks no longer settle soon, though they do with the links before it, where the orders of links follow
+/// A link with which ranks no longer settle soon, though they do with the links before it. The orders of links follow
 /// `fixed` others: mostly the first link that clashes with those before it. It is found by galloping search: what has settled
 /// is doubled until it no longer does, and then halved. Nothing rests on the answer but which way a clash is looked for first.
 ///
@@ -59,7 +59,7 @@ fn settle_soon(
     Ok(raise_in_turns(&mut ranks, orders, sequence, TURNS))
 }
 
-/// The link that the order of this number is of, where the orders of links follow `fixed` others.
+/// The link that the order of this number is of, if the orders of links follow `fixed` others.
 fn link_of(net: &Net, fixed: usize, number: usize) -> Option<u32>
     ensures { IfSome result (λ link. link < length net.now.links) }
 {

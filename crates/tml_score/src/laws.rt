@@ -2,7 +2,7 @@
 ghost use Rattle.tml_score.specs.Reduced.{EveryNetIsReduced, OneReducedList, ReducedLinksSayTheSame};
 ghost use Rattle.tml_score.specs.Scores.{EveryScore, OneScore};
 
-/// The links that stay say the same as all links of a net, and each of them is needed: it can be false where the others
+/// The links that stay say the same as all links of a net, and each of them is needed: it can be false if the others
 /// are true.
 pub fn reduced_links_say_the_same()
     ensures { ReducedLinksSayTheSame }
@@ -13,7 +13,7 @@ pub fn one_reduced_list()
     ensures { OneReducedList }
 {}
 
-/// Where some timeline fits a net there are links that stay.
+/// If some timeline fits a net there are links that stay.
 pub fn every_net_is_reduced()
     ensures { EveryNetIsReduced }
 {}
@@ -23,7 +23,7 @@ pub fn one_score()
     ensures { OneScore }
 {}
 
-/// Where some timeline fits each of two annotations there are scores.
+/// If some timeline fits each of two annotations there are scores.
 pub fn every_score()
     ensures { EveryScore }
 {}

@@ -16,8 +16,8 @@ use order_closure::Cell;
 
 impl KeptLinks<'_> {
     /// Whether an order of two points that are at one place in every timeline follows from the other links that are kept.
-    /// The search goes on from the first point, and back from the last one, through points at their place. It ends where
-    /// the sides meet, where a side comes to a point that the trees join with the other one, or where a side is at its end.
+    /// The search goes on from the first point, and back from the last one, through points at their place. It ends when
+    /// the sides meet, when a side comes to a point that the trees join with the other one, or when a side is at its end.
     ///
     /// # Errors
     ///
@@ -60,7 +60,7 @@ impl KeptLinks<'_> {
     }
 
     /// Goes on over the orders that have the point of this turn at the near end, to the points at the other one. True comes
-    /// where one of these is on the other side, or the trees join it with that side.
+    /// if one of these is on the other side, or the trees join it with that side.
     fn spread_side(
         &self,
         asked: AskedOrder,
@@ -94,7 +94,7 @@ impl KeptLinks<'_> {
         Ok(false)
     }
 
-    /// Comes to a point. True comes where it is on the other side.
+    /// Comes to a point. True comes if it is on the other side.
     fn visit(
         &self,
         asked: AskedOrder,

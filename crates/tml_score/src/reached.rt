@@ -8,7 +8,7 @@ use std::alloc::Global;
 use std::marker::Model;
 
 /// The points that a search has reached, of as many as there can be. What is left of an earlier search is never looked
-/// at: a point was reached where the place that stands for it has this point, so nothing is cleared between searches.
+/// at: a point was reached if the place that stands for it has this point, so nothing is cleared between searches.
 #[derive(Drop)]
 pub struct ReachedPoints {
     points: Vec<u32>,

@@ -36,8 +36,9 @@ pub fn reduce(alloc: Global, net: &Net) -> Result<List<u32>, Memory>
     }
 }
 
-/// The same, by the closure of the net. It takes time near linear in the number of orders, but for links whose points
-/// are at one place: of these, those that trees don't show to follow are searched there.
+/// The same, by the closure of the net. For an order between two places, the search tries the orders that leave its first
+/// place until one is enough. So if many orders leave one place, as in a hub or a class, it takes time in the square of their
+/// number. An order within a place is searched there if the trees don't show that it follows.
 ///
 /// # Errors
 ///

@@ -81,7 +81,7 @@ impl KeptLinks<'_> {
         Ok(false)
     }
 
-    /// Goes on over the orders that leave the point of this turn. True comes where one of them is enough.
+    /// Goes on over the orders that leave the point of this turn. True comes if one of them is enough.
     fn spread(
         &self,
         asked: AskedOrder,
@@ -125,7 +125,7 @@ impl KeptLinks<'_> {
         }
     }
 
-    /// Goes over an order that remains. True comes where it is enough.
+    /// Goes over an order that remains. True comes if it is enough.
     fn take(
         &self,
         asked: AskedOrder,

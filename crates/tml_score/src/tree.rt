@@ -18,8 +18,8 @@ use point_index::PointOf;
 use std::alloc::Global;
 
 /// Orders that lead from the root of each place to its points, or from these back to it, in the order in which they were
-/// taken: each comes from a root, or from a point that an order before it leads to. A point was led to where the order of the
-/// turn that stands for it has this point, and so nothing is cleared where the last orders are taken away.
+/// taken: each comes from a root, or from a point that an order before it leads to. A point was led to if the order of the
+/// turn that stands for it has this point, and so nothing is cleared if the last orders are taken away.
 #[derive(Drop)]
 pub struct Tree {
     pub near: End,
@@ -88,7 +88,7 @@ impl Tree {
         }
     }
 
-    /// Grows again, where orders were taken away, over links that are kept: those that were taken first, which stay
+    /// Grows again, if orders were taken away, over links that are kept: those that were taken first, which stay
     /// kept, and then the others from the last one down. So the links in use are taken late, and few of them are left out.
     ///
     /// # Errors
@@ -205,7 +205,7 @@ impl Tree {
         Ok(())
     }
 
-    /// Takes an order, where it leads on.
+    /// Takes an order, if it leads on.
     fn reach(&mut self, kept: &KeptLinks<'_>, ties: &Ties, order: &Order) -> Result<bool, Memory>
         requires ready { IsReady (basis_of kept.now) }
         requires ties { AreTies (basis_of kept.now) ties.now }

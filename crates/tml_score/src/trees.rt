@@ -16,7 +16,7 @@ use std::alloc::Global;
 
 /// Orders that lead from the root of each place to its points, and others that lead back to it. They show that an order of two
 /// points of a place follows, of a link that they don't use, and they end a search for one of a link that they use. `spent`
-/// counts the points that such searches have reached, since the trees last grew, for orders that follow: where that is many
+/// counts the points that such searches have reached, since the trees last grew, for orders that follow: if that is many
 /// the trees grow again.
 #[derive(Drop)]
 pub struct Trees {
@@ -49,7 +49,7 @@ impl Trees {
         })
     }
 
-    /// Has the trees grow again, before the next link is taken, where that is worth it.
+    /// Has the trees grow again, before the next link is taken, if that is worth it.
     ///
     /// # Errors
     ///
