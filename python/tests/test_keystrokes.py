@@ -1,6 +1,9 @@
 """One wrong keystroke: `tml-corpus fix` writes the original, or it writes nothing, and the original is among the candidates."""
 
+import re
+import time
 import unittest
+from random import Random
 
 from corpus import by_library, needs_library
 from keystrokes import said, share, tally
@@ -9,6 +12,9 @@ from tml.tags.edits import applied
 from tml_corpus.asking.program import Program
 from tml_corpus.check.fix import mended
 from tml_corpus.check.judging import judge_document
+from tml_corpus.origins.draft import tags_of_units
+from tml_corpus.origins.keyboard import MEANT, TYPED, Keystrokes, undone
+from tml_corpus.origins.reading import Reading
 from tml_corpus.origins.restored import told
 
 SLIPS, SEED = 500, 1
@@ -105,8 +111,72 @@ LEFT = ("He & she", "1 < 2", "&amp")
 """Texts that no keystroke explains alone: what is lost there may have been meant."""
 
 
+ATTRIBUTES = " ".join(f'a{number}="v{number}"' for number in range(330))
+WIDE = f'<TimeML>It <EVENT eid="e1" class="STATE" {ATTRIBUTES}>is</EVENT> here.</TimeML>'
+EVENTS = "".join(f'It <EVENT eid="e{number}" class="STATE">was</EVENT> there before it was elsewhere.\n' for number in range(1600))
+HARD = (
+    (WIDE, 'a100="v100"', "a100=v100"),
+    (WIDE, 'a7="v7"', 'a7"v7"'),
+    (WIDE, 'a9="v9"', 'a8="v9"'),
+    (WIDE, 'class="STATE"', 'class="STAE"'),
+    (WIDE, "is</EVENT>", "is<EVENT>"),
+    (f"<TimeML>\n{EVENTS}</TimeML>", 'e15" class="STATE">was</EVENT>', 'e15" class="STATE">was<EVENT>'),
+    (f"<TimeML>\n{EVENTS}</TimeML>", '<EVENT eid="e1500"', 'EVENT eid="e1500"'),
+)
+"""Documents with long tags, or with many of them: what was meant, and what was typed."""
+
+PIECES = (
+    "<EVENT",
+    "</EVENT",
+    ">",
+    "/>",
+    ' a="b"',
+    " c='d'",
+    "=",
+    '"',
+    "'",
+    "<!--",
+    "-->",
+    "--",
+    "<?xml ",
+    "?>",
+    "<!DOCTYPE x",
+    " ",
+    "text",
+    "é",
+    "<",
+)
+
+
+class Stretches(unittest.TestCase):
+    """Which keystrokes leave whole units, by the automaton and by reading each text."""
+
+    def test_drawn_stretches(self) -> None:
+        random = Random(5)
+        whole = 0
+        for _ in range(100):
+            text = "".join(random.choice(PIECES) for _ in range(random.randrange(1, 9)))
+            reading = Reading(text)
+            for keys in undone(text, 0, len(text), TYPED):
+                found = reading.outcomes(0, keys, len(text)).whole
+                for one in keys.texts:
+                    after = text[: keys.start] + one + text[keys.end :]
+                    is_whole = tags_of_units(after) is not None
+                    # The automaton takes any declaration and any doctype.
+                    self.assertTrue((one in found) == is_whole or (one in found and re.search(r"<\?|<!(?!--)", after)), (text, keys, one))
+                    whole += is_whole
+        self.assertGreater(whole, 3_000)
+
+    def test_texts_of_keystrokes(self) -> None:
+        place = STORY.index("<EVENT")
+        [lost, struck, neighbour, exchanged] = [keys for keys in undone(STORY, place, place, TYPED) if keys.start == place]
+        self.assertEqual((lost.texts, struck.texts, exchanged.texts), (TYPED, ("",), ("E<",)))
+        self.assertEqual(neighbour, Keystrokes(neighbour.slip, place, place + 1, MEANT["<"]))
+        self.assertLessEqual({",", "M", "K"}, {*neighbour.texts})
+
+
 @needs_library
-class Keystrokes(unittest.TestCase):
+class OneKeystroke(unittest.TestCase):
     program: Program
 
     @classmethod
@@ -169,6 +239,14 @@ class Keystrokes(unittest.TestCase):
                 fixed = mended(self.program, document)
                 self.assertEqual((fixed.after, fixed.changes), (document, []))
                 self.assertIsNotNone(fixed.left)
+
+    def test_long_tags_and_many_tags(self) -> None:
+        for text, meant, typed in HARD:
+            with self.subTest(typed):
+                begun = time.process_time()
+                fixed = mended(self.program, text.replace(meant, typed, 1).encode())
+                self.assertLess(time.process_time() - begun, 3)
+                self.assertIn(said(fixed.after.decode()), (said(text), said(text.replace(meant, typed, 1))))
 
     def test_clean_documents_are_left(self) -> None:
         self.assertEqual(mended(self.program, STORY.encode()).changes, [])

@@ -197,7 +197,7 @@ class Choice:
         self.touched = sorted({place for one in origins for place in range(one.keystroke.start - 1, one.keystroke.end + 2)})
         self.style = self.style_elsewhere()
         first, last = min(one.keystroke.start for one in origins), max(one.keystroke.end for one in origins)
-        self.calm_names = draft.calm_names(self.low, self.high, first, last - 1)
+        self.calm_names = draft.calm_names((self.low, self.high), (first, last - 1))
 
     def style_elsewhere(self) -> Style:
         """The style of the tags that no origin touches."""
@@ -324,7 +324,7 @@ class Choice:
         key = origin.keystroke
         start = key.start - origin.start
         end = start + len(key.text)
-        names = self.draft.calm_names(origin.start, origin.end, key.start, key.end - 1)
+        names = self.draft.calm_names((origin.start, origin.end), (key.start, key.end - 1))
         found = Counter(self.unlikely(origin.stretch, origin.start, origin.end, names, lambda first, last: first <= end and last >= start))
         tags = list(tags_of(origin.stretch))
         for kind in ("gap", "tag", *self.as_it_was(origin, tags)):

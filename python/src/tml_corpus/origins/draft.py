@@ -5,7 +5,7 @@ from __future__ import annotations
 import re
 from bisect import bisect_left
 from collections import Counter
-from collections.abc import Collection, Iterable, Iterator, Sequence
+from collections.abc import Iterable, Iterator, Sequence
 from functools import cached_property, lru_cache
 from typing import NamedTuple
 
@@ -18,7 +18,7 @@ TAG = re.compile(f"</({NAME}){SPACE}*+>|<({NAME})((?:{SPACE}++{NAME}{SPACE}*+={S
 DOCTYPE = re.compile(f"<!DOCTYPE{SPACE}[^<>\\[]*+>")
 NAMED = re.compile(f"{SPACE}({NAME}){SPACE}*+=")
 COMMENT = re.compile("<!--.*?-->", re.DOTALL)
-PAIR = re.compile(f"{SPACE}++({NAME}){SPACE}*+={SPACE}*+({VALUE})")
+PAIR = re.compile(f"{SPACE}++({NAME}){SPACE}*+={SPACE}*+[\"']((?<=\")[^\"]*+|(?<=')[^']*+)[\"']")
 TAKEN = TABLE.keys() | {ROOT, *WRAPPERS}
 NOWHERE, BROKEN = 0, -1
 """The path outside the root, and that of a place before which tags do not nest."""
@@ -69,8 +69,7 @@ def tag_of(found: re.Match[str]) -> Tag:
     """A tag as it is written."""
     if found[1] is not None:
         return Tag(found.start(), found.end(), found[1], "end", ())
-    pairs = tuple((pair[1], pair[2][1:-1]) for pair in PAIR.finditer(found[3]))
-    return Tag(found.start(), found.end(), found[2], "empty" if found[4] else "start", pairs)
+    return Tag(found.start(), found.end(), found[2], "empty" if found[4] else "start", tuple(PAIR.findall(found[3])))
 
 
 def tags_of(text: str) -> Iterator[Tag]:
@@ -234,19 +233,24 @@ class Draft:
         come = Counter(filter(None, (tag.declares() for tag in tags)))
         return all(self.declared[one] - gone[one] + come[one] < 2 for one in (*names, *come))
 
-    def is_known(self, tag: Tag, first: int, last: int, calm: Collection[str]) -> bool:
-        """Whether a tag may be one of a document, with no attribute that is neither calm nor in such a tag outside of a stretch."""
+    def is_known(self, tag: Tag, stretch: tuple[int, int], key: tuple[int, int]) -> bool:
+        """Whether a tag may be one of a document in which a keystroke changed a stretch: it has no unknown attribute but those that
+        such a tag has outside of the stretch, and those that the keystroke neither changes nor touches."""
         if not may_be(tag.name, tag.kind, tag.pairs):
             return False
-        names = [name for name, _ in tag.pairs if tag.name in TABLE and name not in TABLE[tag.name] and name not in calm]
+        names = {name for name, _ in tag.pairs if name not in TABLE[tag.name]} if tag.name in TABLE else set()
+        names -= self.calm_names(stretch, key) if names else set()
+        if not names:
+            return True
+        first, last = self.within(*stretch)
         inside = Counter(name for old in self.tags[first:last] if old.name == tag.name for name, _ in old.pairs)
         return all(self.attributes[tag.name, name] > inside[name] for name in names)
 
-    def calm_names(self, start: int, end: int, first: int, last: int) -> set[str]:
-        """The names of attributes in a stretch that a keystroke from a first to a last place neither changes nor touches."""
-        if (start, end) not in self.named:
-            self.named[start, end] = [(one.start(), one.end(1), one[1]) for one in NAMED.finditer(self.text, start, end)]
-        return {name for begin, until, name in self.named[start, end] if last < begin or until < first}
+    def calm_names(self, stretch: tuple[int, int], key: tuple[int, int]) -> set[str]:
+        """The names of attributes in a stretch that a keystroke neither changes nor touches."""
+        if stretch not in self.named:
+            self.named[stretch] = [(one.start(), one.end(1), one[1]) for one in NAMED.finditer(self.text, *stretch)]
+        return {name for begin, until, name in self.named[stretch] if key[1] < begin or until < key[0]}
 
 
 def may_be(name: str, kind: str, pairs: tuple[tuple[str, str], ...]) -> bool:

@@ -38,6 +38,16 @@ class Keystroke(NamedTuple):
     text: str
 
 
+class Keystrokes(NamedTuple):
+    """Slips of one kind at one place undone: the stretch of the text, and each text that may have been meant to be there."""
+
+    slip: Slip
+    start: int
+    end: int
+    texts: str | tuple[str, ...]
+    """As a string: each of its characters."""
+
+
 def meant_by_keys() -> dict[str, str]:
     """For each character those that may have been meant: of the keys next to its own, or of its own with another shift."""
     found: defaultdict[str, set[str]] = defaultdict(set)
@@ -58,26 +68,24 @@ def meant_by_keys() -> dict[str, str]:
             found[near[0]].add(pair[1])
     for one in BY_SPACE:
         join(one, " ")
-    # One slash is written for the other, and the key of the line feed is next to the quotes.
+    # One slash is written for the other, and the key of the line feed is next to the quotes and to the backslash.
     found["\\"].add("/")
-    for quote in "'\"":
-        join(quote, "\n")
+    for one in "'\"\\|":
+        join(one, "\n")
     return {typed: "".join(sorted(meant)) for typed, meant in found.items()}
 
 
 MEANT = meant_by_keys()
 
 
-def undone(text: str, low: int, high: int, lost: str) -> Iterator[Keystroke]:
+def undone(text: str, low: int, high: int, lost: str) -> Iterator[Keystrokes]:
     """The text with one keystroke undone from one place to another, if some characters may have been lost."""
     for place in range(max(low, 0), min(high, len(text)) + 1):
-        for character in lost:
-            yield Keystroke(Slip.LOST, place, place, character)
+        yield Keystrokes(Slip.LOST, place, place, lost)
         if place == len(text):
             return
         typed, following = text[place], text[place + 1 : place + 2]
-        yield Keystroke(Slip.STRUCK, place, place + 1, "")
-        for character in MEANT.get(typed, ""):
-            yield Keystroke(Slip.NEIGHBOUR, place, place + 1, character)
+        yield Keystrokes(Slip.STRUCK, place, place + 1, ("",))
+        yield Keystrokes(Slip.NEIGHBOUR, place, place + 1, MEANT.get(typed, ""))
         if following and typed != following:
-            yield Keystroke(Slip.EXCHANGED, place, place + 2, following + typed)
+            yield Keystrokes(Slip.EXCHANGED, place, place + 2, (following + typed,))

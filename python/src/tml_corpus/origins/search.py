@@ -14,7 +14,8 @@ from tml.tags.profile import IDENTIFIERS, LINK_TAGS, TABLE
 from tml.tags.values import has_form
 
 from .draft import BROKEN, NOWHERE, SPACE, TAG, Draft, Tag, tags_of_units
-from .keyboard import MEANT, TYPED, Keystroke, Slip, undone
+from .keyboard import MEANT, TYPED, Keystroke, Keystrokes, undone
+from .reading import Reading
 
 Check = Callable[[str], Fault | None]
 """What `tml` says of a text: its first fault, whose place counts characters, or None if it accepts the text."""
@@ -25,19 +26,15 @@ NOT_TEXT = re.compile("<!--.*?-->|<[!?].*?>", re.DOTALL)
 COMMENT = 2048
 """How far after the beginning of a comment its end may have been lost."""
 
-MOST_READ, MOST_CHECKED, MOST_BYTES = 100_000_000, 300, 16 << 20
-"""How many characters are read of what is around keystrokes, which takes one or two seconds, how many texts `tml` checks, and of how many
-characters together. If that does not do, nothing is decided."""
+MOST_READ, MOST_CHECKED, MOST_BYTES = 60_000_000, 300, 16 << 20
+"""How much is read of what is around keystrokes, which takes about a second, how many texts `tml` checks, and of how many characters
+together. If that does not do, nothing is decided."""
 
-EACH, WHOLE, KNOWN = 64, 8, 2000
-"""To try a keystroke takes as long as to read so many characters more; so many times as long if it makes tags of all that is around; and so
-many characters more if the document may have these tags."""
+EACH, EACH_ORIGIN, EACH_READ = 256, 1000, 8
+"""What it takes of this to try the keystrokes of one kind at one place, to look at what one leaves, and to read a character of a tag."""
 
-ALIKE = {one: kind for kind, those in (("letter", "_:"), ("digit", ".-"), ("sign", "#&+,;"), ("space", " \n")) for one in those}
-ALIKE |= {one: "letter" if one.isalpha() else "digit" for one in TYPED if one.isalnum()}
-"""The characters that markup takes alike but in comments and declarations: if one of them leaves a tag broken, so do the others."""
-
-OTHER_MARKUP = re.compile("<[!?]")
+TURNS = re.compile("[/!?>-]")
+"""What is in each keystroke that makes another kind of tag of a whole one, or a comment; but a `<` that was lost may begin one too."""
 
 LOST_BEGINNING = re.compile(rf"(?<![</A-Za-z])[^<>/\s]?(?:{'|'.join(TABLE)}){SPACE}[^<>]{{,1024}}>")
 """A tag without its `<`, or with another character in its place."""
@@ -45,6 +42,8 @@ LOST_BEGINNING = re.compile(rf"(?<![</A-Za-z])[^<>/\s]?(?:{'|'.join(TABLE)}){SPA
 BAD_REFERENCE = re.compile("&(?!(?:lt|gt|amp|quot|apos|#[0-9]{1,7}|#x[0-9A-Fa-f]{1,6});)")
 ELSEWHERE = {faults.UNBALANCED, faults.UNCLOSED, faults.MISPLACED, faults.TOO_DEEP, faults.DUPLICATE, faults.UNKNOWN_REFERENCE}
 """The faults that a slip in another tag may have brought about."""
+OF_TAGS = ELSEWHERE - {faults.MISPLACED}
+"""Those that no other text explains, if it begins no tag."""
 
 
 class Origin(NamedTuple):
@@ -155,74 +154,95 @@ def has_a_time(tag: Tag) -> bool:
     return tag.name != "TIMEX3" or all(has_form(value) for name, value in tag.pairs if name == "value")
 
 
+def origin_of(text: str, keys: Keystrokes, meant: str, start: int, end: int) -> Origin:
+    """One of some keystrokes with what it leaves between two places."""
+    return Origin(Keystroke(keys.slip, keys.start, keys.end, meant), start, end, text[start : keys.start] + meant + text[keys.end : end])
+
+
 class Search:
     """The search for the origins of one document."""
 
     def __init__(self, draft: Draft, fault: Fault, check: Check) -> None:
         self.draft, self.fault, self.check = draft, fault, check
+        self.reading = Reading(draft.text)
         self.good: dict[str, bool] = {}
         self.checked, self.most_checked = 0, min(MOST_CHECKED, MOST_BYTES // (len(draft.text) + 1))
-        self.is_too_long = False
+        self.seen, self.left = set[tuple[int, int, str]](), MOST_READ
         self.place_before, self.places_after = (-1, 0), dict[int, int]()
 
     def origins(self) -> list[Origin] | None:
         """The origins that `tml` accepts; if there is none, those whose first fault is further on. None if the search is too long."""
-        well_formed: list[tuple[Origin, list[Tag]]] = []
-        for accepts, those in ((self.is_accepted, self.well_formed(well_formed)), (self.goes_further, well_formed)):
+        kept: list[tuple[Origin, list[Tag]]] = []
+        for accepts, those in (
+            (self.is_accepted, self.well_formed(True, kept)),
+            (self.goes_further, chain(kept, self.well_formed(False, []))),
+        ):
             found: list[Origin] = []
             for origin, tags in those:
                 found += [origin] * accepts(origin, tags)
-                if self.checked > self.most_checked:
+                if self.checked > self.most_checked or self.left < 0:
                     return None
-            if self.is_too_long:
+            if self.left < 0:
                 return None
             if found:
                 return found
         return []
 
-    def well_formed(self, kept: list[tuple[Origin, list[Tag]]]) -> Iterator[tuple[Origin, list[Tag]]]:
-        """The stretches that are units, of which each tag may be one of the document, each with its tags. They are kept too."""
-        seen, broken, left = set(), set[tuple[int, str]](), MOST_READ
-        for key in chain.from_iterable(undone(self.draft.text, *one) for one in stretches(self.draft, self.fault)):
-            alike = (key.start, ALIKE.get(key.text, "")) if key.slip is Slip.LOST else (-1, "")
-            if alike in broken:
+    def well_formed(self, may_nest: bool, kept: list[tuple[Origin, list[Tag]]]) -> Iterator[tuple[Origin, list[Tag]]]:
+        """The stretches that are units, each with its tags: those with which the document may nest, or the others. They are kept too."""
+        for origin in self.whole(may_nest):
+            if origin[1:] in self.seen:
                 continue
-            origin = self.of_keystroke(key)
-            left -= EACH if origin is None else EACH + len(origin.stretch)
-            if left < 0:
-                self.is_too_long = True
-                return
-            if origin is None or origin[1:] in seen:
-                continue
-            seen.add(origin[1:])
+            self.seen.add(origin[1:])
+            self.left -= EACH_ORIGIN + len(origin.stretch)
             tags = tags_of_units(origin.stretch)
-            left -= 0 if tags is None else (WHOLE - 1) * len(origin.stretch)
-            if tags is None and alike[1] and not OTHER_MARKUP.search(origin.stretch):
-                broken.add(alike)
-            elif tags is not None and not BAD_REFERENCE.search(NOT_TEXT.sub("", origin.stretch)):
-                if self.fault.number == faults.BAD_DATE and not all(map(has_a_time, tags)):
-                    continue
-                first, last = self.draft.within(origin.start, origin.end)
-                calm = self.draft.calm_names(origin.start, origin.end, key.start, key.end)
-                if all(self.draft.is_known(tag, first, last, calm) for tag in tags):
-                    left -= KNOWN
-                    kept.append((origin, tags))
-                    yield kept[-1]
+            if tags is not None:
+                self.left -= EACH_READ * sum(tag.end - tag.start for tag in tags)
+                kept.append((origin, tags))
+                yield kept[-1]
 
-    def of_keystroke(self, key: Keystroke) -> Origin | None:
-        """A keystroke with what is between the tags around it; None if it leaves what is at fault as it is."""
+    def whole(self, may_nest: bool) -> Iterator[Origin]:
+        """The stretches that are units as far as the automaton can tell."""
+        for keys in chain.from_iterable(undone(self.draft.text, *one) for one in stretches(self.draft, self.fault)):
+            self.left -= EACH
+            if self.left < 0:
+                return
+            yield from self.of_keystrokes(keys, may_nest)
+
+    def of_keystrokes(self, keys: Keystrokes, may_nest: bool) -> Iterator[Origin]:
+        """Keystrokes with what is between the tags around them, and none that leaves what is at fault as it is."""
         text, place = self.draft.text, self.fault.offset
-        start, end = self.before(key.start), self.after(key.end)
-        if text.startswith("<!--", place) and key.start > place:
+        start, end = self.before(keys.start), self.after(keys.end)
+        if text.startswith("<!--", place) and keys.start > place:
             start = place
-            if "--" not in text[key.start - 2 : key.start] + key.text + text[key.end : key.end + 2] + text[key.start - 1 : key.end]:
-                return None
+            left, right, old = text[keys.start - 2 : keys.start], text[keys.end : keys.end + 2], text[keys.start - 1 : keys.end]
+            keys = keys._replace(texts=tuple(meant for meant in keys.texts if "--" in left + meant + right + old))
         if self.fault.number not in ELSEWHERE and not start <= place < end:
-            return None
-        stretch = text[start : key.start] + key.text + text[key.end : end]
-        if stretch.rfind("<!--") > stretch.rfind("-->"):
-            end = self.after(max(text.find("-->", key.end), key.end))
-        return Origin(key, start, end, text[start : key.start] + key.text + text[key.end : end])
+            return
+        if self.fault.number in OF_TAGS and self.reading.is_text(start, keys):
+            keys = keys._replace(texts=tuple(meant for meant in keys.texts if "<" in meant))
+        found = self.reading.outcomes(start, keys, end)
+        for meant in self.nesting(start, end, keys, found.whole, may_nest):
+            yield origin_of(text, keys, meant, start, end)
+        if found.in_comment:
+            end = self.after(max(text.find("-->", keys.end), keys.end))
+            found = self.reading.outcomes(start, keys._replace(texts=found.in_comment), end)
+            for meant in self.nesting(start, end, keys, found.whole, may_nest):
+                yield origin_of(text, keys, meant, start, end)
+
+    def nesting(self, start: int, end: int, keys: Keystrokes, texts: tuple[str, ...], may_nest: bool) -> Iterator[str]:
+        """The texts with which the tags of the document may nest, by what is around the stretch and by how many tags lack their other half;
+        or the others."""
+        if not texts:
+            return
+        draft, (first, last) = self.draft, self.draft.within(start, end)
+        is_nested = BROKEN not in (draft.before[first], draft.needed[last])
+        was = draft.text[keys.start : keys.end]
+        # If only whole tags are there, another keystroke adds or takes away one tag at most.
+        needs_turn = abs(draft.unbalanced.total()) > 1 and not TURNS.search(was) and self.reading.is_whole(start, keys, end)
+        for meant in texts:
+            if may_nest == (is_nested and not (needs_turn and "<" not in meant and not TURNS.search(meant))):
+                yield meant
 
     def before(self, place: int) -> int:
         """The last `<` before a place that is in no comment, or 0."""
@@ -244,11 +264,20 @@ class Search:
         """Whether the whole document is accepted: first by what it needs of the stretch, and then by `tml`."""
         draft, (first, last) = self.draft, self.draft.within(origin.start, origin.end)
         before, needed = draft.before[first], draft.needed[last]
-        if BROKEN in (before, needed) or draft.after(before, tags) != needed or self.has_stray_text(origin, tags, before):
+        if draft.after(before, tags) != needed or not self.may_be(origin, tags) or self.has_stray_text(origin, tags, before):
             return False
         if not (draft.refers_well(first, last, tags) and draft.are_single(first, last, tags, draft.repeated)):
             return False
         return self.are_good(origin, tags) and self.first_fault(origin) is None
+
+    def may_be(self, origin: Origin, tags: list[Tag]) -> bool:
+        """Whether each tag of a stretch may be one of the document, and each reference is one to a character."""
+        if BAD_REFERENCE.search(NOT_TEXT.sub("", origin.stretch)) or (
+            self.fault.number == faults.BAD_DATE and not all(map(has_a_time, tags))
+        ):
+            return False
+        key = origin.keystroke
+        return all(self.draft.is_known(tag, (origin.start, origin.end), (key.start, key.end)) for tag in tags)
 
     def has_stray_text(self, origin: Origin, tags: list[Tag], path: int) -> bool:
         """Whether there is text outside of the root or within a tag that holds none."""
@@ -269,8 +298,11 @@ class Search:
         most = -1 if fault.number in (faults.UNBALANCED, faults.UNCLOSED) else draft.strays
         if draft.comes_apart(first, last, tags) > most:
             return False
-        nests = draft.before[first] != BROKEN and draft.after(draft.before[first], [*tags, *draft.tags[last:until]]) != BROKEN
-        if not nests and phase(fault.number) >= phase(faults.UNBALANCED):
+        if phase(fault.number) >= phase(faults.UNBALANCED):
+            self.left -= EACH_READ * (until - last)
+            if BROKEN in (draft.before[first], draft.after(draft.before[first], [*tags, *draft.tags[last:until]])):
+                return False
+        if not self.may_be(origin, tags):
             return False
         if fault.number == faults.UNKNOWN_REFERENCE and not self.is_found(origin, tags):
             return False
