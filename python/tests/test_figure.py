@@ -228,12 +228,20 @@ class Clashes(FigureTest):
             said = " ".join(self.texts(picture))
             self.assertEqual(picture.count('height="4.4"'), points)
             self.assertEqual(said.count("since x BEFORE x"), steps)
+            self.assertEqual(said.count("is before"), steps)
+            self.assertEqual("Solid: before; dashed: no later than." in said, points > 0)
             self.assertEqual("an interval starts before it ends" in said, points == 2)
 
-    def test_a_fault_has_no_picture(self) -> None:
-        self.write("d.xml", "<TimeML><EVENT/></TimeML>")
-        self.assertEqual(self.run_it("timeline", "--bare", "d.xml", "-o", "d.svg")[0], 1)
-        self.assertEqual(os.listdir(self.folder), ["d.xml"])
+    def test_a_table_of_many_steps(self) -> None:
+        links = "".join(link(number, "BEFORE", (number + 1) % 14) for number in range(14))
+        content = document("".join(event(number, "a long name of an event, " * 4) for number in range(14)) + links)
+        for width in ("40mm", "174mm"):
+            shapes = list(ElementTree.fromstring(self.made(content, "d.svg", "--width", width, status=1).encode()).iter(SVG + "text"))
+            rows = [float(one.get("y", "")) for one in shapes if (one.text or "").isdigit()]
+            self.assertEqual(len(rows), 14)
+            self.assertEqual(rows, sorted({*rows}))
+            lefts = {one.get("x") for one in shapes if one.get("text-anchor") is None and not (one.text or "").startswith("So the")}
+            self.assertEqual(len(lefts), 3, "columns")
 
 
 class Samples(FigureTest):

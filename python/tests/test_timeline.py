@@ -13,6 +13,8 @@ from corpus import EVENT, INSTANCE, TML, TOP, CorpusTest, document, needed, need
 from looking import opened
 from picture_reader import Picture
 from tml.statuses import INTERVAL_LIMIT
+from tml_corpus.figure.shapes import LABEL
+from tml_corpus.timeline.lettering import measured
 
 Attributes = list[tuple[str, str | None]]
 SVG = "{http://www.w3.org/2000/svg}"
@@ -320,17 +322,45 @@ class Open(TimelineTest):
 
 
 class NotDrawn(TimelineTest):
+    def instead(self, content: str, name: str, *words: str) -> tuple[list[str], str]:
+        """What is printed of a document that no timeline fits, and the texts of the picture that is drawn instead."""
+        self.write("d.xml", content)
+        status, lines, error = self.run_it("timeline", "d.xml", "-o", name, *words)
+        self.assertEqual((status, error), (1, ""), lines)
+        with open(self.path(name), encoding="utf-8") as file:
+            root = ElementTree.fromstring(file.read())
+        return lines, " ".join(one.text or "" for one in root.iter(SVG + "text") if one.get("fill") != "none")
+
     def test_links_that_clash_are_those_of_clashes(self) -> None:
-        with open(os.path.join(TOP, "samples", "plant.xml"), encoding="utf-8") as file:
-            lines = self.refused(1, file.read())
-        clashes = self.run_it("clashes", "d.xml")[1][:-1]
-        self.assertEqual(len([line for line in clashes if ": error: clash, " in line]), 3)
-        self.assertEqual(lines, [*clashes, "d.xml: not drawn: no timeline fits, since these links clash"])
+        for name in ("d.svg", "d.html"):
+            lines, shown = self.instead(text_at("samples", "plant.xml"), name)
+            clashes = self.run_it("clashes", "d.xml")[1][:-1]
+            self.assertEqual(len([line for line in clashes if ": error: clash, " in line]), 3)
+            said = ["d.xml: not drawn: no timeline fits, since these links clash", f"d.xml: its first clash is drawn in {name}"]
+            self.assertEqual(lines, [*clashes, *said])
+            self.assertRegex(shown, "1 (start|end) of .* is (before|no later than) .* So the .* would be before itself")
 
     def test_a_fault_is_that_of_check(self) -> None:
-        lines = self.refused(1, document(EVENT + "<EVENT/>"))
-        self.assertEqual(lines, self.run_it("check", "--quiet", "d.xml")[1])
-        self.assertTrue(lines[0].startswith("d.xml:2:40: error: 10 MissingAttribute: "), lines)
+        faulty = document(EVENT + "<EVENT/>")
+        for name, words in (("d.svg", ()), ("d.html", ()), ("d.svg", ("--seconds",)), ("d.svg", ("--bare", "--width", "40mm"))):
+            lines, shown = self.instead(faulty, name, *words)
+            self.assertEqual(lines, [*self.run_it("check", "--quiet", "d.xml")[1], f"d.xml: its fault is drawn in {name}"])
+            self.assertTrue(lines[0].startswith("d.xml:2:40: error: 10 MissingAttribute: "), lines)
+            self.assertIn("<EVENT/>", shown.split())
+            self.assertIn("Line 2, column 40: MissingAttribute: ", shown)
+
+    def test_the_place_of_a_fault_is_in_the_picture(self) -> None:
+        for text in ("x" * 500, "\u738b" * 500, "a\u0301" * 300, "\u202e<!-- -->\t" * 20, ""):
+            for after in ("y" * 500, "\u0633" * 90, ""):
+                _, shown = self.instead(f"<TimeML>{text}<EVENT/>{after}</TimeML>", "d.svg", "--bare")
+                self.assertIn(" <EVENT/> ", f" {shown} ")
+                with open(self.path("d.svg"), encoding="utf-8") as file:
+                    root = ElementTree.fromstring(file.read())
+                width = float(root.get("viewBox", "").split()[2])
+                for one in root.iter(SVG + "text"):
+                    room = measured(one.text or "", LABEL) * {"start": 1, "middle": 0.5, "end": 0}[one.get("text-anchor", "start")]
+                    self.assertLessEqual(float(one.get("x", "")) + room, width)
+                    self.assertGreaterEqual(float(one.get("x", "")) + room - measured(one.text or "", LABEL), 0)
 
     def test_only_what_verify_accepts_is_drawn(self) -> None:
         content = document(event(1) + event(2) + link(1, "BEFORE", 2))

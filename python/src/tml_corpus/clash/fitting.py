@@ -11,6 +11,7 @@ from tml.attempts import attempted
 from ..asking.program import ACCEPTED, CLASH, FAULT, CannotRun, Program, Reply
 from ..check.formats import make_format
 from ..check.judging import judge_document
+from ..check.placed import PlacedFault
 from ..command_line.statuses import Status
 from ..files.finding import Found, shown
 from . import formats
@@ -34,11 +35,11 @@ class Unfit:
 
     text: str
     status: int
-    clash: PlacedClash | None = None
-    """The first of its clashes, where there are such."""
+    shown: PlacedClash | PlacedFault | None = None
+    """What a picture of it shows: its first clash or its fault, if it has one."""
 
     document: bytes = b""
-    """The document that has this clash."""
+    """The document that has it."""
 
 
 def fitting(program: Program, path: str, document: bytes, undone: str, touching: bool) -> Fitting | Unfit:
@@ -61,7 +62,8 @@ def fault_of(program: Program, path: str, document: bytes) -> Unfit:
     judgement = judge_document(program, path, document, True, 0)
     if judgement.accepted():
         raise CannotRun("the answers of tml to `solve` and `check` do not belong together")
-    return Unfit(make_format("text", True).file(judgement), Status.TROUBLE if judgement.problem else Status.FINDING)
+    text = make_format("text", True).file(judgement)
+    return Unfit(text, Status.TROUBLE) if judgement.problem else Unfit(text, Status.FINDING, judgement.faults[0], document)
 
 
 def links_of(program: Program, path: str, document: bytes, undone: str, touching: bool, reply: Reply) -> Fitting | Unfit:

@@ -90,8 +90,8 @@ def encoding_of(name: str) -> str:
 def timeline_words(words: Parser) -> None:
     """The words of `timeline`, which is about one document."""
     words.description = (
-        "Draws what is known of the order of the intervals of a document. If links clash it names them, and if the document "
-        "has a fault it names that; the status is then 1, and no file is written."
+        "Draws what is known of the order of the intervals of a document. If links clash it names them and draws the first clash, "
+        "and if the document has a fault it names that and draws its place; the status is then 1."
     )
     words.formatter_class = RawFormatter
     words.epilog = (
@@ -105,8 +105,7 @@ def timeline_words(words: Parser) -> None:
     words.add_argument("--seconds", action="store_true", help="draw a placing in whole seconds, true to scale, as tml seconds has it")
     words.add_argument("--asserted", action="store_true", help="leave out the events that the document does not assert, and their links")
     words.add_argument("--text-order", action="store_true", help="order the rows as in the text")
-    bare = "draw a small picture for a paper; of links that clash a ring"
-    words.add_argument("--bare", action="store_true", help=bare)
+    words.add_argument("--bare", action="store_true", help="draw a small picture for a paper")
     words.add_argument("--width", type=figure_width, metavar="WIDTH", help="the width of such a picture, as 84mm or 3.3in (84mm)")
     words.add_argument("--rows", metavar="NAMES", help="draw these intervals alone, as ei1,ei2,t1")
     words.add_argument("--around", metavar="NAME", help="draw this interval alone, with those that say when it is")

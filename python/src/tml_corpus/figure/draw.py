@@ -6,6 +6,7 @@ import re
 from dataclasses import dataclass
 
 from ..asking.program import CannotRun, Program
+from ..check.placed import PlacedFault
 from ..clash.report import PlacedClash
 from ..clash.walk_words import steps_in_words
 from ..document.words import Wording
@@ -73,9 +74,16 @@ def placing_figure(timeline: Timeline, one_each: bool) -> Figure:
     return of_placing.figure_of(timeline, SCREEN.width, one_each)
 
 
-def clash_picture(program: Program, title: str, document: bytes, clash: PlacedClash, paper: Paper) -> bytes:
+def clash_figure(program: Program, title: str, document: bytes, clash: PlacedClash, width: float) -> Figure:
     """The picture of a clash."""
     if not clash.walk:
         raise CannotRun("tml printed no walk of this clash")
     wording = Wording(program, document)
-    return written(of_clash.figure_of(title, wording, steps_in_words(wording, clash.walk), paper.width), paper)
+    return of_clash.figure_of(title, wording, steps_in_words(wording, clash.walk), width)
+
+
+def fault_figure(title: str, document: bytes, fault: PlacedFault, width: float) -> Figure:
+    """The picture of the place of a fault."""
+    from . import of_fault
+
+    return of_fault.figure_of(title, document, fault, width)

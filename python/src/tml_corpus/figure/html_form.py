@@ -6,12 +6,16 @@ from collections.abc import Callable
 
 from tml.markup import NOTHING, Markup, Value, element, lined, together
 
+from ..pages.colours import LIGHT
 from ..timeline.lettering import plain
 from ..timeline.rows import Row, Timeline
 from .shapes import FILLINGS, Figure
 from .svg_form import drawing, two
 
-STYLE = """
+STYLE = (
+    f"""
+:root{{--drawn-link:{LIGHT["link"]}}}"""
+    + """
 .picture{overflow:auto;background:#fff;color:#000}.drawn{min-width:44em;position:relative}.drawn svg{display:block;width:100%;height:auto}
 .axis{position:sticky;top:0;height:0;z-index:1;pointer-events:none}.axis svg{background:#fff}
 .row{display:flex;flex-wrap:wrap;gap:0 1em;padding:1px 4px;color:inherit;text-decoration:none;break-inside:avoid}
@@ -20,11 +24,11 @@ STYLE = """
 margin-right:.5em;border:1px solid #000;print-color-adjust:exact}
 .row .around{flex:1 1 14em;color:var(--soft)}.row .around strong{color:var(--ink)}
 .row .name{color:var(--soft)}.row.unasserted .label{font-style:italic}
-g.on,text.on{outline:2px solid #8a1c5c}g.near,text.near{outline:1px dashed #8a1c5c}
+g.on,text.on{outline:2px solid var(--drawn-link)}g.near,text.near{outline:1px dashed var(--drawn-link)}
 @media screen and (prefers-color-scheme:dark){.picture{filter:invert(1) hue-rotate(180deg)}}
 @media print{.picture{overflow:visible}.drawn{min-width:0}.drawn svg{max-height:calc(100vh - 5em)}.axis{display:none}}
-""" + "".join(
-    f".row.{kind} .label::before{{background:{colour}}}" for kind, (colour, _) in FILLINGS.items()
+"""
+    + "".join(f".row.{kind} .label::before{{background:{colour}}}" for kind, (colour, _) in FILLINGS.items())
 )
 """The picture has the colours of all pictures, of which a dark screen shows the opposite brightness."""
 

@@ -8,20 +8,29 @@ from collections.abc import Sequence
 from ..clash.walk_words import WalkStep
 from ..document.words import Wording
 from ..timeline.lettering import fitted, in_lines, measured, plain
-from .shapes import LABEL, SMALL, Box, Figure, Line, Point, Shape, Text
+from .shapes import GREY, LABEL, SMALL, Box, Figure, Line, Point, Shape, Text
 
 EDGE, LEADING = 3.0, 9.0
 MOST = 12
-"""How many steps a ring has at most; lines tell of more."""
+"""How many steps a ring has at most; a table has more."""
+
+COLUMNS = (0.0, 0.34, 0.5)
+"""Where the columns of a table begin, in parts of its width: a point, whether it is before the one in the next row, and why."""
 
 
-def figure_of(title: str, wording: Wording, steps: Sequence[WalkStep], width: float, *, has_lines: bool = True) -> Figure:
-    """The picture of the steps of a walk, which ends where it began; perhaps without the lines of words."""
+def figure_of(title: str, wording: Wording, steps: Sequence[WalkStep], width: float, *, has_words: bool = True) -> Figure:
+    """The picture of the steps of a walk, which ends where it began; perhaps without its words."""
     figure = Figure(width, f"Clash of {plain(title)}", height=EDGE)
-    if len(steps) <= MOST:
+    is_ring = len(steps) <= MOST
+    if is_ring:
         put_ring(figure, wording, steps, width)
-    if has_lines:
-        put_lines(figure, wording, steps, figure.height + 8)
+    if has_words:
+        figure.height += 8
+        (put_lines if is_ring else put_table)(figure, wording, steps)
+        closing = f"So the {point_in_words(wording, steps[0].first)} would be before itself."
+        put_text(figure, closing + " Solid: before; dashed: no later than." * is_ring, EDGE, figure.width - EDGE, SMALL)
+        figure.height += 4 - LEADING
+        figure.said = " ".join([*(f"{number}. {sentence(wording, step)}." for number, step in enumerate(steps, 1)), closing])
     return figure
 
 
@@ -81,19 +90,45 @@ def point_in_words(wording: Wording, point: int) -> str:
     return f"{'end' if point % 2 else 'start'} of {plain(wording.text_of(wording.intervals[point // 2]))}"
 
 
-def put_lines(figure: Figure, wording: Wording, steps: Sequence[WalkStep], y: float) -> None:
-    """A line of words for each step, and what they come to."""
+def put_lines(figure: Figure, wording: Wording, steps: Sequence[WalkStep]) -> None:
+    """A line of words for each step."""
     indent = measured("00 ", LABEL)
     for number, step in enumerate(steps):
-        verb = "is before" if step.strict else "is no later than"
-        said = f"{point_in_words(wording, step.first)} {verb} {point_in_words(wording, step.second)}, {plain(step.reason)}"
-        figure.shapes.append(Text(EDGE + indent - 3, y, str(number + 1), LABEL, "end", bold=True))
-        for line in in_lines(said, (figure.width - 2 * EDGE - indent), LABEL):
-            figure.shapes.append(Text(EDGE + indent, y, line, LABEL))
-            y += LEADING
-        y += 1.5
-    closing = f"So the {point_in_words(wording, steps[0].first)} would be before itself. Solid: before; dashed: no later than."
-    for line in in_lines(closing, (figure.width - 2 * EDGE), SMALL):
-        figure.shapes.append(Text(EDGE, y, line, SMALL))
-        y += LEADING
-    figure.height = y - LEADING + 4
+        figure.shapes.append(Text(EDGE + indent - 3, figure.height, str(number + 1), LABEL, "end", bold=True))
+        put_text(figure, sentence(wording, step), EDGE + indent, figure.width - EDGE)
+        figure.height += 1.5
+
+
+def put_table(figure: Figure, wording: Wording, steps: Sequence[WalkStep]) -> None:
+    """A row for each step: the point, how it is to the point of the next row, and why."""
+    indent = measured(f"{len(steps)} ", LABEL)
+    begin = EDGE + indent
+    lefts = [begin + part * (figure.width - EDGE - begin) for part in COLUMNS]
+    for number, step in enumerate(steps):
+        top, bottoms = figure.height, list[float]()
+        figure.shapes.append(Text(begin - 3, top, str(number + 1), LABEL, "end", bold=True))
+        cells = (point_in_words(wording, step.first), verb(step), plain(step.reason))
+        for cell, left, right in zip(cells, lefts, (*lefts[1:], figure.width), strict=True):
+            figure.height = top
+            put_text(figure, cell, left, right - EDGE)
+            bottoms.append(figure.height)
+        figure.height = max(bottoms) + 2
+        y = figure.height - LABEL - 2.5
+        figure.shapes.append(Line(((EDGE, y), (figure.width - EDGE, y)), 0.25, GREY))
+
+
+def put_text(figure: Figure, text: str, left: float, right: float, size: float = LABEL) -> None:
+    """A text in lines between two edges, from the height of the picture on, which it makes higher."""
+    for line in in_lines(text, right - left, size):
+        figure.shapes.append(Text(left, figure.height, line, size))
+        figure.height += LEADING
+
+
+def verb(step: WalkStep) -> str:
+    """How the first point of a step is to the second one."""
+    return "is before" if step.strict else "is no later than"
+
+
+def sentence(wording: Wording, step: WalkStep) -> str:
+    """A step in words, without a full stop."""
+    return f"{point_in_words(wording, step.first)} {verb(step)} {point_in_words(wording, step.second)}, {plain(step.reason)}"

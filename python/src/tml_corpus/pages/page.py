@@ -103,7 +103,7 @@ def clash_part(wording: Wording, words: Words, clash: PlacedClash, number: int) 
     cure = "This link is wrong" if is_one else "Any one of these links, left out, lets the others be true; one of them is wrong"
     notes = (element("li", at(note.place), ": ", coded(note.text)) for note in clash.calendar + clash.dates + clash.cures)
     steps = steps_in_words(wording, clash.walk)
-    first, ring = point_part(wording, steps[0].first), of_clash.figure_of(title, wording, steps, RING, has_lines=False)
+    first, ring = point_part(wording, steps[0].first), of_clash.figure_of(title, wording, steps, RING, has_words=False)
     content = lined(
         element("h3", f"Clash {number}: {title}"),
         listed(*(element("li", link_reference(link), source_part(link.source)) for link in clash.links), kind="cited"),

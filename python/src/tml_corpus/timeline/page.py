@@ -8,7 +8,7 @@ from __future__ import annotations
 import base64
 import hashlib
 
-from tml.markup import Markup, data, element, html_file, lined, raw
+from tml.markup import NOTHING, Markup, data, element, html_file, lined, raw
 from tml.matrices import Matrix
 from tml.statuses import BASE_RELATIONS, INVERSES
 
@@ -39,8 +39,8 @@ h1{font-size:1.3em;overflow-wrap:anywhere}
 .row:focus-visible,main:focus-visible,#links:focus-visible{outline:3px solid var(--strong);outline-offset:-3px}
 .row.on .name,.row.on .around{color:var(--ink)}
 g.dim,text.dim{opacity:.15}
-.link{fill:none;stroke:#8a1c5c;stroke-width:.8}.relation{font-size:6px;fill:#8a1c5c;stroke:#fff;stroke-width:1.5;paint-order:stroke}
-#arrow{fill:#8a1c5c}
+.link{fill:none;stroke:var(--drawn-link);stroke-width:.8}.relation{font-size:6px;fill:var(--drawn-link);stroke:#fff;stroke-width:1.5;paint-order:stroke}
+#arrow{fill:var(--drawn-link)}
 @media print{@page{size:landscape}html,body,main{display:block;height:auto}main{overflow:visible}.rows{width:auto}
 #links,#tools{display:none}h1{break-after:avoid;position:static}.drawn{width:auto;min-width:0}}
 """
@@ -87,26 +87,34 @@ def possible(matrix: Matrix, order: tuple[int, ...]) -> dict[str, object]:
 def page(timeline: Timeline, figure: Figure) -> str:
     """The page as a file. It is XML too, so that whoever likes can read it with such a reader."""
     digest = base64.b64encode(hashlib.sha256(SCRIPT.encode()).digest()).decode()
+    rows = html_form.in_words(timeline, "div", lambda place, row: {"id": f"row{place}"})
+    return titled(
+        figure,
+        lined(rows, element("noscript", WITHOUT)),
+        element("div", POINT, id="links", role="status", tabindex="0", aria_label="Links of a row"),
+        *values(timeline),
+        raw("script", SCRIPT),
+        tools=TOOLS,
+        policy=f"; script-src 'sha256-{digest}'",
+    )
+
+
+def still_page(figure: Figure) -> str:
+    """A page that is a picture alone."""
+    return titled(figure, NOTHING)
+
+
+def titled(figure: Figure, below: Markup, *after: Markup, tools: Markup = NOTHING, policy: str = "") -> str:
+    """A page with a picture and what is below it, and perhaps with more above and after that."""
     head = lined(
         element("meta", charset="utf-8"),
-        element(
-            "meta",
-            http_equiv="Content-Security-Policy",
-            content=f"default-src 'none'; style-src 'unsafe-inline'; script-src 'sha256-{digest}'",
-        ),
+        element("meta", http_equiv="Content-Security-Policy", content=f"default-src 'none'; style-src 'unsafe-inline'{policy}"),
         element("meta", name="viewport", content="width=device-width, initial-scale=1"),
         element("title", figure.title),
         raw("style", STYLE),
     )
-    rows = html_form.in_words(timeline, "div", lambda place, row: {"id": f"row{place}"})
-    content = lined(element("h1", element("bdi", figure.title)), html_form.in_page(figure), rows, element("noscript", WITHOUT))
-    body = lined(
-        TOOLS,
-        element("main", "\n", content, aria_label=figure.title, tabindex="0"),
-        element("div", POINT, id="links", role="status", tabindex="0", aria_label="Links of a row"),
-        *values(timeline),
-        raw("script", SCRIPT),
-    )
+    content = lined(element("h1", element("bdi", figure.title)), html_form.in_page(figure), below)
+    body = lined(tools, element("main", "\n", content, aria_label=figure.title, tabindex="0"), *after)
     parts = lined(element("head", "\n", head), element("body", "\n", body))
     return html_file(element("html", "\n", parts, xmlns="http://www.w3.org/1999/xhtml", lang="en"))
 

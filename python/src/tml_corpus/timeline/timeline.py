@@ -17,12 +17,13 @@ from ..asking.program import ACCEPTED, CannotRun, Program, Reply
 from ..asking.room import room_for
 from ..clash.clashes import verify_timeline
 from ..clash.fitting import Unfit, fitting
+from ..clash.report import PlacedClash
 from ..command_line.statuses import Status
 from ..document.around import Around, Text, text_around
 from ..document.asserted import AssertedCopy, asserted_copy, unasserted
 from ..document.words import Wording
 from ..figure.draw import FORMS as BARE_FORMS
-from ..figure.draw import PAGE, SCREEN, UNITS, Paper, clash_picture, placing_figure, timeline_figure, written
+from ..figure.draw import PAGE, SCREEN, UNITS, Paper, clash_figure, fault_figure, placing_figure, timeline_figure, written
 from ..figure.shapes import Figure
 from ..files.finding import CannotRead, counted, read_document, shown
 from ..files.replacing import replace_file
@@ -31,7 +32,7 @@ from ..matrix.reading import NOT_FITTING, matrix_of
 from ..seconds.formats import change_lines, unplaced_lines
 from ..seconds.placed import Placed, Unplaced, document_placed
 from .known import Known
-from .page import page
+from .page import page, still_page
 from .rows import Row, Timeline
 from .sentences import neighbours, sentences
 
@@ -109,7 +110,7 @@ def draw_placing(program: Program, path: str, target: str, choices: Choices) -> 
     document, copy = chosen(program, readable(path, target), choices)
     found = document_placed(program, path, document, choices.touching)
     if isinstance(found, Unfit):
-        return undrawn(found)
+        return drawn_instead(program, path, target, found, choices)
     if isinstance(found, Unplaced):
         return Drawn(change_lines(path, found) + unplaced_lines(path, found), Status.FINDING)
     picture = picture_of_placing(program, path, target, found, choices)
@@ -131,7 +132,7 @@ def draw_document(program: Program, path: str, document: bytes, target: str, cho
     document, copy = chosen(program, document, choices)
     found = fitting(program, path, document, "drawn", choices.touching)
     if isinstance(found, Unfit):
-        return drawn_clash(program, path, target, found, choices)
+        return drawn_instead(program, path, target, found, choices)
     timeline = verified(program, path, found.document, found.reply, choices)
     places = counted(len(timeline.known.axis), "place")
     counts = f"{counted(len(timeline.rows), 'interval')}, {counted(len(timeline.ends), 'link')}, an axis of {places}"
@@ -155,12 +156,17 @@ def picture_of(timeline: Timeline, figure: Figure, target: str, paper: Paper) ->
     return page(timeline, figure) if form_of(target) in PAGES else written(figure, paper)
 
 
-def drawn_clash(program: Program, path: str, target: str, unfit: Unfit, choices: Choices) -> Drawn:
-    """What there is of a document that no timeline fits: the ring of its first clash, where a picture for a paper is wanted."""
-    if choices.paper is None or unfit.clash is None:
+def drawn_instead(program: Program, path: str, target: str, unfit: Unfit, choices: Choices) -> Drawn:
+    """What is drawn of a document that no timeline fits: its first clash, or the place of its fault."""
+    if unfit.shown is None:
         return undrawn(unfit)
-    picture = clash_picture(program, os.path.basename(path), unfit.document, unfit.clash, choices.paper)
-    return Drawn(unfit.text + f"{shown(path)}: its first clash is drawn in {shown(target)}\n", unfit.status, picture)
+    title, paper = os.path.basename(path), choices.paper or SCREEN
+    if isinstance(unfit.shown, PlacedClash):
+        what, figure = "first clash", clash_figure(program, title, unfit.document, unfit.shown, paper.width)
+    else:
+        what, figure = "fault", fault_figure(title, unfit.document, unfit.shown, paper.width)
+    picture: str | bytes = still_page(figure) if form_of(target) in PAGES else written(figure, paper)
+    return Drawn(unfit.text + f"{shown(path)}: its {what} is drawn in {shown(target)}\n", unfit.status, picture)
 
 
 def chosen(program: Program, document: bytes, choices: Choices) -> tuple[bytes, AssertedCopy | None]:
