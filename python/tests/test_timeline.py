@@ -421,10 +421,9 @@ class NotDrawn(TimelineTest):
                 self.assertIn(printed, "\n".join(lines) + error)
         self.assertEqual(sorted(os.listdir(self.folder)), ["d.xml", "dir.svg", "same.svg"])
 
-    def test_a_picture_that_is_there_stays_where_none_is_drawn(self) -> None:
+    def test_a_picture_that_is_there_stays_if_none_is_drawn(self) -> None:
         self.write("d.svg", "old")
-        self.write("d.xml", document(event(1) + link(1, "BEFORE", 1)))
-        self.assertEqual(self.run_it("timeline", "d.xml", "-o", "d.svg")[0], 1)
+        self.assertEqual(self.run_it("timeline", "gone.xml", "-o", "d.svg")[0], 2)
         with open(self.path("d.svg"), encoding="utf-8") as file:
             self.assertEqual(file.read(), "old")
         self.drawn(document(event(1)))
