@@ -5,6 +5,7 @@ use Rattle.net_core.specs.Nets.{points}
 use Rattle.net_orders.specs.declared.orders.Order.{Order}
 use Rattle.tml_score.specs.Reached.{PlainReached}
 use Rattle.tml_score.specs.Graph.{AreOfPoint, by_end}
+use Rattle.tml_score.specs.declared.search.AskedOrder.{AskedOrder}
 use Rattle.tml_score.specs.Search.{Basis, ExtendsReached, GoesOn, IsLed, IsPassed, IsReady, IsSearch, IsThrough, IsRemainingWay, basis_of, remains}
 use Rattle.tml_score.specs.Tree.{no_order}
 use Rattle.tml_score.specs.declared.ends.End.TheVariants.{From}
@@ -16,6 +17,14 @@ use Rattle.tml_score.proofs.search.KeptLinks.spread.Goals.{else-comes_near-via-t
 
 pub of_point-order-items-requires : goal.of_point-order-items-requires
 of_point-order-items-requires c = omega (arith, c.point-point.ensures.room, c.requires.search.room, c.requires.ready.graph.onward_points)
+
+-- the search went on over the first n orders, and each of them is passed
+abbrev AreTaken : Basis → AskedOrder → List Order → PlainReached → ℕ → PlainReached → Type 0
+AreTaken basis asked items old n new = record {
+  search : IsSearch basis asked new;
+  extends : ExtendsReached old new;
+  passed : (k : ℕ) (d : Order) → k < n → IsRemainingWay basis asked (get_or items k d) → IsPassed basis asked new.points (get_or items k d);
+}
 
 -- an order of a point's list is one of the graph, and leaves the point
 one_of : (basis : Basis) → IsReady basis → (items : List Order) (point i : ℕ) → AreOfPoint (by_end From basis.graph) point items → i < length items →
@@ -73,41 +82,26 @@ loop-order-preserved c =
     let mid = c.loop-order.reached in
     let was = c.loop-order.invariant in
     let to = to_point basis c.requires.ready items c.point-point.result i c.of_point-order-items.ensures c.loop-order-test.true in
+    let stays : ((x : Order) → IsRemainingWay basis asked x → x ≡ o → IsPassed basis asked mid.points x) → AreTaken basis asked items old (i + 1) mid = λ one. record {
+      search = was.search;
+      extends = was.extends;
+      passed = passed_one basis asked c.requires.ready c.requires.asked items i no_order mid mid c.loop-order-test.true (extends_none mid) was.passed one;
+    } in
     elim c.else-comes_near.branch [
       | else-comes_near-via-then-comes_near+then-remains+in_ok-take+else-branch w ↦
           let next = w.take.new.reached in
           let goes : GoesOn basis asked (λ x. x ≡ o) mid next (Ok false) = subst (λ (b : Bool). GoesOn basis asked (λ x. x ≡ o) mid next (Ok b)) w.if-branch.false w.in_ok-take.ensures in
-          subst (λ (r : PlainReached). record {
-            search : IsSearch basis asked r;
-            extends : ExtendsReached old r;
-            passed : (k : ℕ) (d : Order) → k < i + 1 → IsRemainingWay basis asked (get_or items k d) → IsPassed basis asked r.points (get_or items k d);
-          }) (sym w.reached-is) (record {
+          subst (AreTaken basis asked items old (i + 1)) (sym w.reached-is) (record {
             search = goes.0;
             extends = extends_then old mid next was.extends goes.1;
             passed = passed_one basis asked c.requires.ready c.requires.asked items i no_order mid next c.loop-order-test.true goes.1 was.passed goes.2;
           })
       | else-comes_near-via-then-comes_near+else-remains w ↦
-          subst (λ (r : PlainReached). record {
-            search : IsSearch basis asked r;
-            extends : ExtendsReached old r;
-            passed : (k : ℕ) (d : Order) → k < i + 1 → IsRemainingWay basis asked (get_or items k d) → IsPassed basis asked r.points (get_or items k d);
-          }) (sym w.reached-is) (record {
-            search = was.search;
-            extends = was.extends;
-            passed = passed_one basis asked c.requires.ready c.requires.asked items i no_order mid mid c.loop-order-test.true (extends_none mid) was.passed (λ x way same.
-                absurd (let stays : remains basis asked o ≡ true = subst (λ (y : Order). remains basis asked y ≡ true) same way.1 in let goes : false ≡ remains basis asked o = w.if-remains.ensures in let both : false ≡ true = goes ∙ stays in cc));
-          })
+          subst (AreTaken basis asked items old (i + 1)) (sym w.reached-is) (stays (λ x way same.
+          absurd (let on : remains basis asked o ≡ true = subst (λ (y : Order). remains basis asked y ≡ true) same way.1 in let off : false ≡ remains basis asked o = w.if-remains.ensures in let both : false ≡ true = off ∙ on in cc)))
       | else-comes_near-via-else-comes_near w ↦
-          subst (λ (r : PlainReached). record {
-            search : IsSearch basis asked r;
-            extends : ExtendsReached old r;
-            passed : (k : ℕ) (d : Order) → k < i + 1 → IsRemainingWay basis asked (get_or items k d) → IsPassed basis asked r.points (get_or items k d);
-          }) (sym w.reached-is) (record {
-            search = was.search;
-            extends = was.extends;
-            passed = passed_one basis asked c.requires.ready c.requires.asked items i no_order mid mid c.loop-order-test.true (extends_none mid) was.passed (λ x way same.
-                subst (IsPassed basis asked mid.points) (sym same) (passed_away basis asked c.requires.ready c.requires.asked mid.points o to (λ near. let h = w.if-comes_near.ensures.1 near in absurd (search rules))));
-          })
+          subst (AreTaken basis asked items old (i + 1)) (sym w.reached-is) (stays (λ x way same.
+          subst (IsPassed basis asked mid.points) (sym same) (passed_away basis asked c.requires.ready c.requires.asked mid.points o to (λ near. let h = w.if-comes_near.ensures.1 near in absurd (search rules)))))
     ]
 
 pub returns : goal.returns
