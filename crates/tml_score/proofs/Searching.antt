@@ -26,7 +26,7 @@ use Rattle.order_closure.specs.declared.cell.Cell.TheVariants.{Free, Strict, Wea
 use Rattle.tml_score.specs.Meeting.{IsLedTo, IsPassedAt, IsWith}
 use Rattle.tml_score.specs.Graph.{counts, link_atoms}
 use Rattle.tml_score.specs.declared.search.AskedOrder.{AskedOrder}
-use Rattle.tml_score.specs.Search.{AreThrough, Basis, Decides, HasEnough, IsAsked, IsLed, IsPassed, IsReady, IsThrough, IsRemainingWay, LeadsOut, Rest, is_other}
+use Rattle.tml_score.specs.Search.{AreThrough, Basis, ComesNear, Decides, HasEnough, IsAsked, IsLed, IsPassed, IsReady, IsThrough, IsRemainingWay, LeadsOut, Rest, is_other}
 use Rattle.tml_score.proofs.GraphLaws.{in_range, link_in_range, orders_say}
 use Rattle.tml_score.proofs.Nested.{nested_atoms}
 use Rattle.clash.proofs.Elements.{in_filter}
@@ -100,7 +100,7 @@ module _ (basis : Basis) (asked : AskedOrder) (ready : IsReady basis) (is : IsAs
   within : (test : ℕ → Bool) (o : Order) → Contains (edges_of test) o ↔ (Contains basis.graph.onward.items o × (counts test o.link ≡ true))
   within test o = in_filter (λ (x : Order). counts test x.link) basis.graph.onward.items o
 
-  -- edges are true where their links hold
+  -- edges are true if their links hold
   edges_true : (test : ℕ → Bool) (t : Timeline) → FitsWith net (λ k. test k ≡ true) t ↔ AllTrue atom_of (edges_of test) t
   edges_true test t =
       let say = orders_say net ready.net basis.graph.onward.items ready.graph.orders test t in (
@@ -170,6 +170,33 @@ module _ (basis : Basis) (asked : AskedOrder) (ready : IsReady basis) (is : IsAs
   -- a way to a point that the search goes through doesn't lead out
   pub not_out : (o : Order) → IsThrough basis asked o.atom.to → LeadsOut basis asked o → ⊥
   not_out o through out = elim out [ inl last ↦ through.not_last last | inr free ↦ through.back free ]
+
+  -- the order that is asked for always holds
+  own : (t : Timeline) → Fits net t → Satisfies t asked.order
+  own t all = All-contains (Satisfies t) (link_atoms net asked.link) asked.order ((link_said net asked.link (link_atoms net asked.link) refl t).1 (all.links asked.link is.link tt)) is.order
+
+  -- a point at or before the first one is at or before the last
+  near_last : (x : ℕ) → x < points net → (cell_at basis.table x p ≡ Free → ⊥) → 1 ≤ strength (cell_at basis.table x q)
+  near_last x lt not = given x q false lt asked_range.1 (λ t fits.
+      let back = always x p false lt asked_range.0 (some_said (cell_at basis.table x p) not) t fits in
+      let on : t p ≤ t q = in_order_weaker false asked.order.strict (t p) (t q) (λ e. cc) (own t fits) in
+      omega (arith, back, on))
+
+  -- an order that does not come near the last point is passed
+  pub passed_away : (xs : List ℕ) (o : Order) → o.atom.to < points net → (ComesNear basis asked o → ⊥) → IsPassed basis asked xs o
+  passed_away xs o lt away = (
+    λ enough. away (not_free (cell_at basis.table o.atom.to q) (says (asked.order.strict && not o.atom.strict) enough.1)),
+    inl (inr (free_or (cell_at basis.table o.atom.to p) (λ not. away (not_free (cell_at basis.table o.atom.to q) (near_last o.atom.to lt not))))),
+  )
+    where
+      says : (s : Bool) → strength (order s) ≤ strength (cell_at basis.table o.atom.to q) → 1 ≤ strength (cell_at basis.table o.atom.to q)
+      says true gives = omega arith
+      says false gives = gives
+
+      free_or : (x : Cell) → ((x ≡ Free → ⊥) → ⊥) → x ≡ Free
+      free_or Free not = refl
+      free_or Weak not = absurd (not (λ e. cc))
+      free_or Strict not = absurd (not (λ e. cc))
 
   -- ---- what is found follows
 
@@ -248,7 +275,7 @@ module _ (basis : Basis) (asked : AskedOrder) (ready : IsReady basis) (is : IsAs
     ]
   ]
 
-  -- where a way is enough the order always holds with the rest
+  -- if a way is enough, the order always holds with the rest
   pub found_follows : HasEnough basis asked → Decides basis asked true
   found_follows found = λ t fits.
       let o = found.0 in
@@ -260,11 +287,8 @@ module _ (basis : Basis) (asked : AskedOrder) (ready : IsReady basis) (is : IsAs
 
   -- an order from a point to itself always holds
   pub itself_follows : p ≡ q → Decides basis asked true
-  itself_follows same = λ t fits. by asked.order.strict (λ v all. (own v all)) t
+  itself_follows same = λ t fits. by asked.order.strict own t
     where
-      own : (v : Timeline) → Fits net v → Satisfies v asked.order
-      own v all = All-contains (Satisfies v) (link_atoms net asked.link) asked.order ((link_said net asked.link (link_atoms net asked.link) refl v).1 (all.links asked.link is.link tt)) is.order
-
       by : (s : Bool) → ((v : Timeline) → Fits net v → IsInOrder s (v p) (v q)) → (t : Timeline) → IsInOrder s (t p) (t q)
       by false holds t = subst (λ (z : ℕ). t p ≤ t z) same (omega arith)
       by true holds t = absurd (let less = holds u ready.fits.1 in let e = ap u same in omega arith)
@@ -374,12 +398,12 @@ module _ (basis : Basis) (asked : AskedOrder) (ready : IsReady basis) (is : IsAs
       | inr counter ↦ (counter.0, true_rest counter.0 counter.1, counter.2)
     ]
 
-    -- where a side onward is at its end without the last point the order can fail
+    -- if a side onward is at its end without the last point, the order can fail
     pub onward_ends : (xs : List ℕ) → All (IsLed basis asked) xs → Contains xs p → (Contains xs q → ⊥)
         → ((o : Order) → IsRemainingWay basis asked o → Contains xs o.atom.from → IsPassedAt basis asked xs o.atom.to) → Decides basis asked false
     onward_ends xs led first last passed = path_or_fails (λ es leads. last (on_to_last xs led passed es p first leads))
 
-    -- and so it can where a side back is at its end without the first one
+    -- and so it can if a side back is at its end without the first one
     pub back_ends : (ys : List ℕ) → Contains ys q → (Contains ys p → ⊥)
         → ((o : Order) → IsRemainingWay basis asked o → Contains ys o.atom.to → IsPassedAt basis asked ys o.atom.from) → Decides basis asked false
     back_ends ys last first passed = path_or_fails (λ es leads. first (back_to_first ys last passed es p (λ t fits. omega arith) leads))

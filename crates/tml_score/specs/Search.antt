@@ -71,6 +71,10 @@ AreMarks basis o = IfSome o.link (λ k. k < length basis.keep)
 abbrev pub IsRemainingWay : Basis → AskedOrder → Order → Type 0
 IsRemainingWay basis asked o = Contains basis.graph.onward.items o × (remains basis asked o ≡ true)
 
+-- it leads to a point that the closure puts at or before the last one
+abbrev pub ComesNear : Basis → AskedOrder → Order → Type 0
+ComesNear basis asked o = cell_at basis.table o.atom.to asked.order.to ≢ Free
+
 -- it leads to the last point, or to one that the closure doesn't put at or before the first
 abbrev pub LeadsOut : Basis → AskedOrder → Order → Type 0
 LeadsOut basis asked o = (o.atom.to ≡ asked.order.to) ⊎ (cell_at basis.table o.atom.to asked.order.from ≡ Free)

@@ -96,11 +96,24 @@ impl KeptLinks<'_> {
     {
         let point = reached.point(turn);
         for order in self.graph.onward.of_point(point) {
-            if self.remains(asked, order) && self.take(asked, order, reached)? {
+            if self.comes_near(asked, order)
+                && self.remains(asked, order)
+                && self.take(asked, order, reached)?
+            {
                 return Ok(true);
             }
         }
         Ok(false)
+    }
+
+    /// Whether the closure puts the point that an order leads to at or before the last one. If it does not, the order leads
+    /// nowhere, and this is known sooner than anything else of it.
+    fn comes_near(&self, asked: AskedOrder, order: &Order) -> bool
+        requires to { order.now.atom.to < self.now.table.now.points }
+        requires last { asked.order.to < self.now.table.now.points }
+        ensures { IsTrue result ↔ spec.ComesNear (basis_of self.now) asked order.now }
+    {
+        self.table.cell(order.atom.to, asked.order.to) != Cell::Free
     }
 
     /// Whether an order is of no link, or of another one that is kept.
