@@ -756,8 +756,8 @@ def step_by(order: Order | None) -> Step | None:
 #
 # Each line ends with a line feed, and one space separates its words. A number is decimal, without sign and without leading zeros.
 
-LONGEST_LINE = 128
-"""No line of a right text is longer. Of a longer one no more is read at once, so it ends without a line feed, and is bad."""
+BUFFER, LONGEST_LINE = 65_536, 128
+"""How many bytes of a file are read at once, and of a line. No line of a right text is longer: what is read of a longer line is bad."""
 GREATEST = 2**32 - 1
 """The greatest number in a text, except for seconds."""
 LEAST_SECOND, GREATEST_SECOND = -(2**63), 2**63 - 1
@@ -839,7 +839,7 @@ class Text:
 
     def read_rest(self) -> None:
         """Reads to the end of the file, which may turn out to be too long, or not to be readable."""
-        while self.stream.read(65_536):
+        while self.stream.read(BUFFER):
             pass
 
 
@@ -1063,19 +1063,19 @@ class TooLong(Exception):
 
 
 class Limited(io.RawIOBase):
-    """The bytes of a file; it raises TooLong if there are more than it may have."""
+    """The bytes of a file; it raises TooLong if there are more than there may be."""
 
-    def __init__(self, name: str, most: int) -> None:
-        """Opens a file; `-` is standard input."""
-        self.file = open(0 if name == "-" else name, "rb", buffering=0, closefd=name != "-")
+    def __init__(self, file: io.FileIO, most: int) -> None:
+        """Begins at the first byte of a file of at most so many bytes."""
+        self.file = file
         self.left = most
 
     def readable(self) -> bool:
-        """It is for reading."""
+        """It can be read."""
         return True
 
     def readinto(self, buffer: bytearray | memoryview) -> int:  # type: ignore[override]
-        """Reads what comes next: how many bytes, 0 at the end."""
+        """Reads what comes next into a buffer: how many bytes, and 0 at the end."""
         count = self.file.readinto(buffer)
         if count is None:
             raise BlockingIOError
@@ -1084,10 +1084,10 @@ class Limited(io.RawIOBase):
             raise TooLong
         return count
 
-    def close(self) -> None:
-        """Closes the file."""
-        self.file.close()
-        super().close()
+
+def opened(name: str) -> io.FileIO:
+    """The file of a name; `-` is standard input."""
+    return open(0 if name == "-" else name, "rb", buffering=0, closefd=name != "-")
 
 
 def reply_to(arguments: Sequence[str]) -> tuple[int, Iterable[str]]:
@@ -1096,11 +1096,11 @@ def reply_to(arguments: Sequence[str]) -> tuple[int, Iterable[str]]:
         return USAGE, ["usage:", "python3 tml_checker.py DOC EVIDENCE", "python3 tml_checker.py DOC SECONDS"]
     reading = "DOC"
     try:
-        with io.BufferedReader(Limited(arguments[0], MOST_DOCUMENT)) as stream:
-            net = Net(document_of(stream.read()))
+        with opened(arguments[0]) as file:
+            net = Net(document_of(io.BufferedReader(Limited(file, MOST_DOCUMENT)).read()))
         reading = "EVIDENCE"
-        with io.BufferedReader(Limited(arguments[1], MOST_EVIDENCE)) as stream:
-            return reply_of_stream(net, stream)
+        with opened(arguments[1]) as file:
+            return reply_of_stream(net, io.BufferedReader(Limited(file, MOST_EVIDENCE), BUFFER))
     except NotAccepted:
         return NOT_ACCEPTED, ["not accepted"]
     except TooLong:
