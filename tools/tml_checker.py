@@ -437,6 +437,7 @@ def is_bad_date(text: bytes) -> bool:
     years, fields = value.years(), value.fields
 
     def is_within(name: str, least: int, most: int) -> bool:
+        """Whether a field is in range, or absent, or an X."""
         number = fields.get(name)
         return number is None or least <= number <= most
 
