@@ -613,14 +613,14 @@ def are_true(orders: Iterable[Order], ranks: Sequence[int]) -> bool:
 
 
 class Followers(NamedTuple):
-    """A point, and all points that one of the links has after it (strictly), or not before it."""
+    """A point, and all points that some link has after it, or at least not before it if that is not strict."""
 
     point: int
     is_strict: bool
     after: Sequence[int]
 
     def are_after(self, ranks: Sequence[int]) -> bool:
-        """Whether they are, by their ranks."""
+        """Whether they are there by their ranks."""
         least = min(map(ranks.__getitem__, self.after))
         return ranks[self.point] < least or (not self.is_strict and ranks[self.point] == least)
 
@@ -648,8 +648,16 @@ class Net:
         for interval in document.intervals:
             self.add_bounds(bounds_of(interval.time))
         self.followers = followers_in(order for orders in self.links for order in orders)
-        self.by_lower = sorted((number, point) for point, number in enumerate(self.lower) if number is not None)
-        self.lower_numbers = [number for number, _ in self.by_lower]
+        bounded = sorted((number, point) for point, number in enumerate(self.lower) if number is not None)
+        numbers = [number for number, _ in bounded]
+        self.latest = [point for _, point in reversed(bounded)]
+        """The points that have a lower number, from the greatest number on."""
+        self.uppers = [
+            (point, len(numbers) - bisect_left(numbers, upper), len(numbers) - bisect_right(numbers, upper))
+            for point, upper in enumerate(self.upper)
+            if upper is not None
+        ]
+        """The points that have an upper number, each with how many of `latest` it is not after, and how many of these it is before."""
 
     def add_bounds(self, bounds: Bounds | None) -> None:
         """Adds the numbers of a start and an end: a point is not before its lower number, and not after its upper one, if it has one."""
@@ -676,19 +684,13 @@ class Net:
     def false_in_calendar(self, ranks: Sequence[int]) -> Order | None:
         """The order by the calendar that is false of ranks, if there is one: that of the least first point, and then of the least second.
 
-        A point is to be before all points with a greater lower number than its upper one, and not after those with the same. So
-        only the least rank of the points from a lower number on is looked at.
+        `least[k]` is the least rank of the first k points of `latest`, so there is no need to look at each two points.
         """
-        unbounded = max(ranks, default=0) + 1
-        least = [*accumulate((ranks[point] for _, point in reversed(self.by_lower)), min, initial=unbounded)]
-        last = len(self.by_lower)
-        for first, upper in enumerate(self.upper):
-            if upper is not None:
-                same_or_later = least[last - bisect_left(self.lower_numbers, upper)]
-                later = least[last - bisect_right(self.lower_numbers, upper)]
-                if ranks[first] > same_or_later or ranks[first] >= later:
-                    orders = (self.calendar_order(first, second) for second in range(self.points))
-                    return next(order for order in orders if order and not order.is_true(ranks))
+        least = [*accumulate(map(ranks.__getitem__, self.latest), min, initial=max(ranks, default=0) + 1)]
+        for first, not_after, before in self.uppers:
+            if ranks[first] > least[not_after] or ranks[first] >= least[before]:
+                orders = (self.calendar_order(first, second) for second in range(self.points))
+                return next(order for order in orders if order and not order.is_true(ranks))
         return None
 
 
@@ -701,8 +703,8 @@ def why_unfit(net: Net, ranks: Sequence[int], links: Sequence[int] | None = None
     if interval is not None:
         return f"Order {interval}"
     if links is not None or not all(followers.are_after(ranks) for followers in net.followers):
-        asked = range(len(net.links)) if links is None else links
-        link = next((one for one in asked if not are_true(net.links[one], ranks)), None)
+        chosen = range(len(net.links)) if links is None else links
+        link = next((one for one in chosen if not are_true(net.links[one], ranks)), None)
         if link is not None:
             return f"Link {link}"
     order = net.false_in_calendar(ranks)
