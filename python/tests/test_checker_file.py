@@ -13,25 +13,27 @@ import sys
 import tempfile
 import time
 import unittest
+from collections import Counter
 from collections.abc import Iterator, Sequence
 from functools import lru_cache, partial
 from pathlib import Path
 from random import Random
 from types import ModuleType
 
-from corpus import LIBRARY, TOOLS, TOP, needs_library
+from corpus import TML, TOOLS, TOP, needs_seconds
 from differential import placings
-from differential.cases import Case
+from differential.cases import Case, Memory
 from differential.documents import draw_document
 from differential.drawing import Written, draw_placing, draw_text, draw_writing
 from differential.faulty import draw_faulty
 from differential.hostile import draw_hostile
 from differential.mutated import draw_mutated, draw_noise
+from differential.tables import Row, Table
 from differential.words import DOCUMENT
 from forging import forged
 from reference import Outcome, expected
 from test_tml_verify import FIRST_LINE, TML_VERIFY
-from tml.library import Library
+from tml.process import Process
 from tml.statuses import DOCUMENT_LIMIT, EVIDENCE_LIMIT, TmlStatus
 
 CHECKER = Path(TOOLS, "tml_checker.py")
@@ -261,21 +263,53 @@ class ByTheReference(unittest.TestCase):
         self.assertEqual(statuses, {TmlStatus.DONE, TmlStatus.DOC_FAULT, TmlStatus.EVIDENCE_FAULT})
 
 
-def written_by(library: Library, cases: Sequence[Case]) -> list[Written]:
+class ByHand(unittest.TestCase):
+    """The verdicts in the table of `command_rows`, which were written by hand, as far as their files need no program and are short."""
+
+    def rows(self) -> Iterator[tuple[Row, list[bytes]]]:
+        """The rows that succeed or refuse without a failing device, each with what the files hold that it reads."""
+        table = Table(Path(TOP, "crates", "command_rows", "stdin").read_bytes())
+        printed: set[bytes] = set()
+        for row in table.rows():
+            names = row.case.readings()
+            if row.kept_as is not None:
+                table.keep(row.kept_as, b"")
+                printed.add(row.kept_as)
+            elif row.case.memory == Memory() and printed.isdisjoint(names) and all(name in row.case.files for name in names):
+                contents = [row.case.files[name] for name in names]
+                if len(set(names)) == len(names) and all(len(content) <= DOCUMENT_LIMIT for content in contents):
+                    yield row, contents
+
+    def test_verdicts_on_evidence_and_documents(self) -> None:
+        tried: Counter[bytes] = Counter()
+        for row, contents in self.rows():
+            command = b"".join(row.case.words[:1])
+            wanted = without_faults(row.wanted.status, row.wanted.text)
+            if command == b"check" and contents:
+                self.assertEqual(net_of(*contents) is None, wanted[1] == NOT_ACCEPTED, row.line)
+            elif len(contents) == 2 and command.decode() == command_of(contents[1]):
+                self.assertEqual(checked(*contents), wanted, row.line)
+            else:
+                continue
+            tried[command] += 1
+        self.assertTrue(all(tried[command] > 400 for command in (b"check", b"verify", b"confirm")), tried)
+
+
+def written_by(program: Process, cases: Sequence[Case]) -> list[Written]:
     """The documents of some cases, each with the evidence or the seconds that the program prints."""
     written = []
     for case in cases:
         command, _, *arguments = (word.decode() for word in case.words)
-        status, text = library.answer(command, [case.files[DOCUMENT]], arguments)
+        status, text = program.answer(command, [case.files[DOCUMENT]], arguments)
         if status in (TmlStatus.DONE, TmlStatus.CLASH):
             written.append(Written(case.files[DOCUMENT], text))
     return written
 
 
-def certificates(draw: Random, library: Library) -> Iterator[Written]:
+def certificates(draw: Random, program: Process) -> Iterator[Written]:
     """A batch of certificates: documents with what the program wrote about them, and then with what is mostly forged."""
-    claims = written_by(library, [draw_writing(draw) for _ in range(IN_A_BATCH // 8)])
-    seconds = written_by(library, [draw_placing(draw) for _ in range(IN_A_BATCH // 8)])
+    claims = written_by(program, [draw_writing(draw) for _ in range(IN_A_BATCH // 8)])
+    seconds = written_by(program, [draw_placing(draw) for _ in range(IN_A_BATCH // 8)])
     yield from claims + seconds
     for _ in range(IN_A_BATCH - len(claims) - len(seconds)):
         of_seconds = seconds and draw.random() < 0.3
@@ -284,22 +318,30 @@ def certificates(draw: Random, library: Library) -> Iterator[Written]:
         yield Written(one.document if draw.random() < 0.95 else draw.choice(claims + seconds).document, text)
 
 
-@needs_library
+@unittest.skipUnless(os.access(TML_VERIFY, os.X_OK), f"no program {TML_VERIFY}")
+@needs_seconds
 class ByTheProgram(unittest.TestCase):
-    """Certificates that the program wrote about drawn documents, as they are and forged: what the proved checker says of them."""
+    """Certificates that `tml` wrote about drawn documents, as they are and forged: what `tml-verify` says of each of them."""
 
     def setUp(self) -> None:
-        self.library = Library(LIBRARY)
+        held = tempfile.TemporaryDirectory(prefix="certificates-")
+        self.addCleanup(held.cleanup)
+        self.folder = Path(held.name)
+        self.program = Process(TML)
 
-    def by_program(self, one: Written) -> tuple[int, bytes]:
-        """What the proved checker in the library answers, without the fault of a document."""
-        return without_faults(*self.library.answer(command_of(one.text), [one.document, one.text]))
+    def run_over(self, one: Written, *command: str) -> tuple[int, bytes]:
+        """What a command prints about a document and a certificate, without the fault of a document."""
+        for name, content in (("d.xml", one.document), ("evidence", one.text)):
+            Path(self.folder, name).write_bytes(content)
+        done = subprocess.run([*command, "d.xml", "evidence"], cwd=self.folder, capture_output=True, check=False, timeout=60)
+        self.assertEqual(done.stderr, b"")
+        return without_faults(done.returncode, done.stdout)
 
     def test_five_thousand_certificates(self) -> None:
         draw, confirmed, reasons = Random(1), 0, set()
         for _ in range(BATCHES):
-            for one in certificates(draw, self.library):
-                wanted = self.by_program(one)
+            for one in certificates(draw, self.program):
+                wanted = self.run_over(one, TML_VERIFY)
                 self.assertEqual(checked(one.document, one.text), wanted, one)
                 confirmed += wanted[0] == TmlStatus.DONE
                 reasons.add(reason_in(wanted[1]))
@@ -307,17 +349,9 @@ class ByTheProgram(unittest.TestCase):
         self.assertLess(confirmed, BATCHES * IN_A_BATCH // 2)
         self.assertGreaterEqual(len(reasons & REASONS), len(REASONS) - 2, reasons)
 
-    @unittest.skipUnless(os.access(TML_VERIFY, os.X_OK), f"no program {TML_VERIFY}")
-    def test_some_of_them_by_both_commands(self) -> None:
-        draw = Random(2)
-        with tempfile.TemporaryDirectory(prefix="certificates-") as name:
-            for one in itertools.chain(*(certificates(draw, self.library) for _ in range(3))):
-                for file, content in (("d.xml", one.document), ("evidence", one.text)):
-                    Path(name, file).write_bytes(content)
-                commands = ((TML_VERIFY,), (*ALONE, str(CHECKER)))
-                ran = [subprocess.run([*command, "d.xml", "evidence"], cwd=name, capture_output=True, check=False) for command in commands]
-                program, checker_itself = ((one.returncode, one.stdout, one.stderr) for one in ran)
-                self.assertEqual(checker_itself, (*without_faults(*program[:2]), b""))
+    def test_a_hundred_by_the_file_as_a_command(self) -> None:
+        for one in certificates(Random(2), self.program):
+            self.assertEqual(self.run_over(one, *ALONE, str(CHECKER)), self.run_over(one, TML_VERIFY), one)
 
 
 class Strangers(unittest.TestCase):
