@@ -292,7 +292,7 @@ class ByHand(unittest.TestCase):
             else:
                 continue
             tried[command] += 1
-        self.assertTrue(all(tried[command] > 400 for command in (b"check", b"verify", b"confirm")), tried)
+        self.assertTrue(all(tried[command] > 200 for command in (b"check", b"verify", b"confirm")), tried)
 
 
 def written_by(program: Process, cases: Sequence[Case]) -> list[Written]:
