@@ -100,7 +100,7 @@ async function look(tml, { key, file }) {
   if (verdict.kind !== "accepted") return { verdict };
   const source = new Source(bytes, textOf(tml.run(["spans", "first"], bytes).text), textOf(answered.text));
   const wording = new Wording(source, textOf(tml.run(["dates", "first"], bytes).text), tables.orders);
-  held = { key, bytes, wording: Object.assign(wording, { base: tables.base }) };
+  held = { key, bytes, wording: Object.assign(wording, { base: tables.base, signs: tables.signs }) };
   return { verdict, intervals: source.intervals.map((name) => ({ name, text: source.textOf(name) })), links: source.links.length };
 }
 
