@@ -146,8 +146,8 @@ function picture(wording, model) {
   if (wording.names.length === 0) return [paragraph("The document has no instances and no times, so there is nothing to draw.")];
   const left = lines.length - drawn.lines.length;
   const seen = [
-    { kind: "picture", model: drawn, words: WORDS },
-    ...(left > 0 ? [paragraph(`The picture has ${MOST_LINES} of ${lines.length} lines. The sentences have all of them.`)] : []),
+    { kind: "picture", model: drawn, fillings: wording.fillings, words: WORDS },
+    ...(left > 0 ? [paragraph(`The picture has ${MOST_LINES} of ${lines.length} lines. More are in the sentences.`)] : []),
     { kind: "details", summary: "How to read the picture", blocks: [list(READING, (one) => [one])] },
     heading("The axis, from left to right"),
     sentences(places, (place) => place),

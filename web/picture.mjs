@@ -15,6 +15,9 @@ const LINES = {
 };
 /** Of each sign of an order its line. */
 
+const RIM = { stroke: "#ffffff", "stroke-width": 2, "stroke-linejoin": "round", "paint-order": "stroke" };
+/** The rim of letters, by which they can be read over lines. */
+
 /** A part of a picture. */
 const piece = (name, attributes, ...children) => ({ name, attributes, children });
 
@@ -135,8 +138,8 @@ function anchors(one, other, number) {
 function label({ label: text }, { outer }, top, broad) {
   const isLate = outer[0] + outer[1] > broad;
   const [x, room] = isLate ? [outer[1], outer[1] - EDGE] : [outer[0], broad - EDGE - outer[0]];
-  const look = { x: two(x), y: two(top - 1.6), "font-size": LABEL, "text-anchor": isLate ? "end" : "start", fill: BLACK };
-  return piece("text", look, fitted(text, room / LABEL));
+  const look = { x: two(x), y: two(top - 1.8), "font-size": LABEL, "text-anchor": isLate ? "end" : "start", fill: BLACK };
+  return piece("text", { ...look, ...RIM }, fitted(text, room / LABEL));
 }
 
 /** A text that is cut if it takes more room, which is given in sizes of its letters. */

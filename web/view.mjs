@@ -1,7 +1,10 @@
 // Blocks of an answer as elements of the page.
-import { button, foreign, make, shown } from "./elements.mjs";
+import { apart, button, drawn, foreign, make, shown } from "./elements.mjs";
+import { pictureOf } from "./picture.mjs";
 
 const MOST_AT_ONCE = 200; // items of a list before somebody wants more
+const KINDS = { event: "", exact: ", date", within: ", within a date", free: ", no date" };
+/** What the label of a bar says of its kind. */
 
 /** A sentence as elements. */
 export function sentence(parts) {
@@ -21,12 +24,13 @@ export function block(one) {
 const BLOCKS = {
   text: ({ parts }) => make("p", {}, sentence(parts)),
   heading: ({ parts }) => make("h4", {}, sentence(parts)),
-  list: ({ items, left }) => listed("ul", items, left),
-  steps: ({ items, left }) => listed("ol", items, left),
+  list: ({ items, left, id }) => listed(make("ul", { id }), items, left),
+  steps: ({ items, left }) => listed(make("ol"), items, left),
   details: ({ summary, blocks }) => make("details", {}, make("summary", {}, summary), blocks.map(block)),
   table: ({ caption, head, rows }) => tabled(caption, head, rows),
   prose: ({ runs }) => make("p", { class: "prose", dir: "auto" }, runs.map(run)),
   source: ({ lines }) => sourceLines(lines),
+  picture: ({ model, fillings, words }) => pictured(model, fillings, words),
 };
 
 /** The lines of a source, in which a stretch is marked. */
@@ -48,10 +52,30 @@ function run({ text, note, isGap }) {
   return make("mark", {}, foreign(text), make("small", {}, ` ${called}`));
 }
 
-function listed(name, items, left) {
-  const list = make(name);
+function listed(list, items, left) {
   const more = left > 0 ? make("p", {}, `And ${left.toLocaleString("en")} more, which this page does not list.`) : null;
   return make("div", {}, list, growing(list, items.map((parts) => () => make("li", {}, sentence(parts)))), more);
+}
+
+/** The picture of a timeline, drawn anew if the page gets broader or narrower. A list with an id has the same in words. */
+function pictured(model, fillings, words) {
+  const rows = model.rows.map((row) => ({ ...row, label: labelOf(row) }));
+  const wide = make("div", { class: "picture", tabindex: 0, role: "region", "aria-label": "Picture of the timeline" });
+  let drawnFor = 0;
+  new ResizeObserver(() => {
+    if (wide.clientWidth === drawnFor) return;
+    drawnFor = wide.clientWidth;
+    const picture = drawn(pictureOf({ ...model, rows }, drawnFor / 2, fillings));
+    picture.setAttribute("aria-label", `Timeline of ${rows.length} intervals`);
+    picture.setAttribute("aria-describedby", words);
+    wide.replaceChildren(picture);
+  }).observe(wide);
+  return wide;
+}
+
+/** What is written at a bar: the text and the name of its interval, and its kind. */
+function labelOf({ name, text, kind }) {
+  return (text ? `${apart(text)} (${apart(name)})` : apart(name)) + KINDS[kind];
 }
 
 function tabled(caption, head, rows) {
