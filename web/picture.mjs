@@ -1,5 +1,6 @@
 // The picture of a timeline, in parts of SVG: a row for each bar, upright lines for the places of the axis, and lines between bars for
 // the orders that they do not say. A part has a name, attributes, and inner parts or texts. Lengths are in units of two pixels.
+import { apart, shown } from "./elements.mjs";
 
 const [EDGE, TOP, BAR, LABEL, PITCH, FOOT] = [3, 4, 8, 6.5, 20, 4];
 /** What is free at the edges and above; how high bars and letters are; how far apart rows are; and what is free below. */
@@ -14,6 +15,9 @@ const LINES = {
   "=": { class: "together", stroke: GREY, "stroke-width": 1.7 },
 };
 /** Of each sign of an order its line. */
+
+const KINDS = { event: "", exact: ", date", within: ", within a date", free: ", no date" };
+/** What the label of a bar says of its kind. */
 
 const RIM = { stroke: "#ffffff", "stroke-width": 2, "stroke-linejoin": "round", "paint-order": "stroke" };
 /** The rim of letters, by which they can be read over lines. */
@@ -134,20 +138,32 @@ function anchors(one, other, number) {
   return one[1] < other[0] ? [one[1], other[0]] : [one[0], other[1]];
 }
 
-/** The label of a bar above it, from where it begins, or up to where it ends if that leaves more room. */
-function label({ label: text }, { outer }, top, broad) {
+/** The label of a bar above it, from where it begins, or up to where it ends if that leaves more room. Texts are cut before names are. */
+function label({ text, name, kind }, { outer }, top, broad) {
   const isLate = outer[0] + outer[1] > broad;
   const [x, room] = isLate ? [outer[1], outer[1] - EDGE] : [outer[0], broad - EDGE - outer[0]];
   const look = { x: two(x), y: two(top - 1.8), "font-size": LABEL, "text-anchor": isLate ? "end" : "start", fill: BLACK };
-  return piece("text", { ...look, ...RIM }, fitted(text, room / LABEL));
+  const called = apart(fitted(shown(name), (text ? 0.5 : 0.9) * room));
+  const tail = (text ? ` (${called})` : called) + KINDS[kind];
+  const head = text ? apart(fitted(shown(text), room - measured(tail))) : "";
+  return piece("text", { ...look, ...RIM }, head + tail);
 }
 
-/** A text that is cut if it takes more room, which is given in sizes of its letters. */
+/** About as much room as a label takes, if not less. */
+function measured(text) {
+  return LABEL * Array.from(text).reduce((sum, one) => sum + ("\u2068\u2069".includes(one) ? 0 : one > "\u08ff" ? 1.1 : 0.66), 0);
+}
+
+/** A text that is cut if it takes more room, but for its first character. */
 function fitted(text, room) {
-  const characters = Array.from(text);
-  let [left, count] = [room - 1, 0];
-  while (count < characters.length && left > 0) left -= characters[count++] > "\u08ff" ? 1.2 : 0.75;
-  return count < characters.length ? `${characters.slice(0, Math.max(count - 1, 1)).join("")}…` : text;
+  if (measured(text) <= room) return text;
+  let [left, cut] = [room - LABEL, ""];
+  for (const one of text) {
+    left -= measured(one);
+    if (left < 0 && cut) break;
+    cut += one;
+  }
+  return `${cut}…`;
 }
 
 /** A number with two decimals at most. */

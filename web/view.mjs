@@ -1,10 +1,8 @@
 // Blocks of an answer as elements of the page.
-import { apart, button, drawn, foreign, make, shown } from "./elements.mjs";
+import { button, drawn, foreign, make, shown } from "./elements.mjs";
 import { pictureOf } from "./picture.mjs";
 
 const MOST_AT_ONCE = 200; // items of a list before somebody wants more
-const KINDS = { event: "", exact: ", date", within: ", within a date", free: ", no date" };
-/** What the label of a bar says of its kind. */
 
 /** A sentence as elements. */
 export function sentence(parts) {
@@ -59,23 +57,17 @@ function listed(list, items, left) {
 
 /** The picture of a timeline, drawn anew if the page gets broader or narrower. A list with an id has the same in words. */
 function pictured(model, fillings, words) {
-  const rows = model.rows.map((row) => ({ ...row, label: labelOf(row) }));
   const wide = make("div", { class: "picture", tabindex: 0, role: "region", "aria-label": "Picture of the timeline" });
   let drawnFor = 0;
   new ResizeObserver(() => {
     if (wide.clientWidth === drawnFor) return;
     drawnFor = wide.clientWidth;
-    const picture = drawn(pictureOf({ ...model, rows }, drawnFor / 2, fillings));
-    picture.setAttribute("aria-label", `Timeline of ${rows.length} intervals`);
+    const picture = drawn(pictureOf(model, drawnFor / 2, fillings));
+    picture.setAttribute("aria-label", `Timeline of ${model.rows.length} intervals`);
     picture.setAttribute("aria-describedby", words);
     wide.replaceChildren(picture);
   }).observe(wide);
   return wide;
-}
-
-/** What is written at a bar: the text and the name of its interval, and its kind. */
-function labelOf({ name, text, kind }) {
-  return (text ? `${apart(text)} (${apart(name)})` : apart(name)) + KINDS[kind];
 }
 
 function tabled(caption, head, rows) {

@@ -29,7 +29,7 @@ for await (const line of createInterface({ input: process.stdin })) {
   const model = modelOf(wording, bytes(given.matrix), tables.signs);
   const positions = { places: model.axis.map((_, place) => 20 * (place + 1)), left: 0, right: 20 * (model.axis.length + 1) };
   const rows = [...model.rows, ...model.listed];
-  const part = pictureOf({ ...model, rows: model.rows.map((row) => ({ ...row, label: row.name })) }, given.width, tables.fillings);
+  const part = pictureOf(model, given.width, tables.fillings);
   part.attributes.xmlns = "http://www.w3.org/2000/svg";
   part.children.push(...model.listed.map(listed));
   console.log(
