@@ -8,6 +8,7 @@ import re
 import subprocess
 import unittest
 from collections import Counter
+from dataclasses import replace
 from pathlib import Path
 from typing import Any
 
@@ -62,7 +63,7 @@ def model_of(answers: dict[str, str], content: str) -> dict[str, Any]:
     matrix: Matrix = read_matrix(io.BytesIO(answers["matrix"].encode()), [row.name for row in rows])
     known = known_of(rows, PointOrders.of(matrix), range(len(rows)))
     listed = set(known.listed)
-    tied = [Called(**{**vars(row), "is_tied": number not in listed}) for number, row in enumerate(rows)]
+    tied = [replace(row, is_tied=number not in listed) for number, row in enumerate(rows)]
     order = sorted(range(len(rows)), key=lambda number: sorting(tied[number], number, False))
     numbered = dict(enumerate(rows))
     said = sentences(known, numbered)
