@@ -19,9 +19,10 @@ from tml.statuses import BASE_RELATIONS, FAULT_NAMES, ORDERS
 from tml_corpus.figure.shapes import FILLINGS, PALE
 from tml_corpus.matrix.orders import SIGNS
 from tml_corpus.pages.colours import variables
+from tml_corpus.pages.index import FOR_BROWSERS
 
 SOURCES = TOP / "web"
-NAME = "tml.html"
+NAME = FOR_BROWSERS
 EXAMPLE = TOP / "samples/port.xml"
 PLACES = {
     "policy": '<meta http-equiv="Content-Security-Policy" content="default-src \'self\'">',
