@@ -39,6 +39,7 @@ const SHOWN = {
 /** What evidence shows. */
 
 const WORDS = "timeline-words"; // the list of sentences next to a picture
+const MOST_SAID = 20; // what is said of one interval of a picture
 const MOST_LINES = 500; // lines between the bars of a picture
 const KINDS = {
   event: "an event",
@@ -142,12 +143,13 @@ function timelineOf(wording, { ends }) {
 
 /** What is so in every timeline that fits, as a picture and in sentences. */
 function picture(wording, model) {
-  const [{ rows, listed, places, lines }, drawn] = [model, { ...model, places: [], lines: model.lines.slice(0, MOST_LINES) }];
+  const { names, axis, places, rows, listed } = model;
+  const [bars, lines] = [rows.map((row) => ({ ...row, said: [] })), model.lines.slice(0, MOST_LINES)];
   if (wording.names.length === 0) return [paragraph("The document has no instances and no times, so there is nothing to draw.")];
-  const left = lines.length - drawn.lines.length;
+  const cut = `The picture has the first ${MOST_LINES} of ${model.lines.length} lines between bars.`;
   const seen = [
-    { kind: "picture", model: drawn, fillings: wording.fillings, words: WORDS },
-    ...(left > 0 ? [paragraph(`The picture has ${MOST_LINES} of ${lines.length} lines. More are in the sentences.`)] : []),
+    { kind: "picture", model: { names, axis, rows: bars, lines }, fillings: wording.fillings, words: WORDS },
+    ...(lines.length < model.lines.length ? [paragraph(cut)] : []),
     { kind: "details", summary: "How to read the picture", blocks: [list(READING, (one) => [one])] },
     heading("The axis, from left to right"),
     sentences(places, (place) => place),
@@ -162,7 +164,8 @@ function picture(wording, model) {
 
 /** What is known of an interval, in a sentence. */
 function rowSaid(wording, { name, kind, bar, said: known }) {
-  const found = [...(bar ? [] : [["nothing says when"]]), ...known];
+  const found = [...(bar ? [] : [["nothing says when"]]), ...known.slice(0, MOST_SAID)];
+  if (known.length > MOST_SAID) found.push([`and ${known.length - MOST_SAID} more orders`]);
   return [...wording.interval(name), `, ${KINDS[kind]}: `, ...found.flatMap((one, index) => (index > 0 ? ["; ", ...one] : one)), "."];
 }
 

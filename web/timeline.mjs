@@ -51,6 +51,8 @@ function ordersIn(relations, signs) {
 
 /** Of each point the sets of those that are never before it, always after it, never after it, and always before it. */
 class PointOrders {
+  #classes = [];
+
   /** By the names of the intervals, the lines of `tml matrix` in bytes, and the signs of each base relation. */
   constructor(names, matrix, signs) {
     const own = names.flatMap((_, interval) => [bit(2 * interval), bit(2 * interval + 1)]);
@@ -92,6 +94,12 @@ class PointOrders {
   /** The points that are at one place with a point in every timeline, itself among them. */
   together(point) {
     return this.notBefore[point] & this.notAfter[point];
+  }
+
+  /** The same points, in their order. */
+  classOf(point) {
+    this.#classes[point] ??= members(this.together(point));
+    return this.#classes[point];
   }
 
   /** The points of which it is known how they are to a point. */
@@ -165,7 +173,7 @@ function boundOf(weak, strict, places, isLower) {
 function ordersBeyond(orders, axis) {
   const [firstOnes, onAxis] = [orders.firstOnes(), axis.reduce((found, point) => found | orders.together(point), 0n)];
   return members(firstOnes & ~onAxis).flatMap((point) => {
-    const together = members(orders.together(point));
+    const together = orders.classOf(point);
     const [before, neverAfter] = nextOnes(orders, point, firstOnes).map((set) => members(set & ~onAxis));
     return [
       ...together.slice(1).map((other, index) => equal(together[index], other)),
@@ -194,12 +202,13 @@ function nextOnes(orders, point, firstOnes) {
 
 /** Whether an interval starts at the one point and ends at the other. */
 function isOfOneInterval(orders, first, second) {
-  return members(orders.together(first)).some((point) => point % 2 === 0 && (orders.together(second) & bit(point + 1)) !== 0n);
+  const ends = orders.together(second);
+  return orders.classOf(first).some((point) => point % 2 === 0 && (ends & bit(point + 1)) !== 0n);
 }
 
 /** An order between two of the points that are together with these: best of an end and a start, then of two starts or two ends. */
 function between(orders, first, sign, second) {
-  const [ones, others] = [first, second].map((point) => members(orders.together(point)));
+  const [ones, others] = [orders.classOf(first), orders.classOf(second)];
   const [end, start] = [ones.find((one) => one % 2 === 1), others.find((other) => other % 2 === 0)];
   return { first: end ?? ones[0], sign, second: start ?? others[0] };
 }
@@ -212,7 +221,7 @@ function knownOf(orders, exact) {
   const upper = orders.points.map((point) => boundOf(orders.notBefore[point], orders.after[point], places, false));
   const starts = orders.points.filter((point) => point % 2 === 0);
   const listed = starts.filter((start) => ![lower, upper].some((bounds) => bounds[start] || bounds[start + 1])).map((start) => start / 2);
-  return { axis: axis.map((point) => members(orders.together(point))), lower, upper, listed, orders: ordersBeyond(orders, axis) };
+  return { axis: axis.map((point) => orders.classOf(point)), lower, upper, listed, orders: ordersBeyond(orders, axis) };
 }
 
 /** The intervals in the order of their rows: by the least timeline; last those that are listed, by where they are in the text. */
@@ -242,25 +251,29 @@ function barOf({ lower, upper }, interval) {
 }
 
 /** Sentences about what is known: in the words of a document, and with its exact dates. */
+/** Sentences about what is known, in the words of a document. */
 class TimelineWords {
   #known;
   #wording;
-  #exact;
+  #places;
 
+  /** By what is known, the words, and the exact dates, by which places are called. */
   constructor(known, wording, exact) {
-    [this.#known, this.#wording, this.#exact] = [known, wording, new Set(exact)];
+    [this.#known, this.#wording] = [known, wording];
+    const dates = new Set(exact);
+    const parted = (points) => [points.filter((point) => dates.has(point >> 1)), points.filter((point) => !dates.has(point >> 1))].flat();
+    this.#places = known.axis.map(parted);
   }
 
   /** A place of the axis: by a date if there is one, and not by some interval if there is another one. */
-  place(place, besides = -1) {
-    const key = (point) => [Number(point >> 1 === besides), Number(!this.#exact.has(point >> 1)), point];
-    const isLess = (one, other) => one.map((part, index) => part - other[index]).find((difference) => difference !== 0) < 0;
-    return this.#wording.point(this.#known.axis[place].reduce((least, point) => (isLess(key(point), key(least)) ? point : least)));
+  #place(place, besides) {
+    const points = this.#places[place];
+    return this.#wording.point(points.find((point) => point >> 1 !== besides) ?? points[0]);
   }
 
   /** Each of the places, from the first to the last. */
   places() {
-    return this.#known.axis.map((_, place) => this.place(place));
+    return this.#places.map(([point]) => this.#wording.point(point));
   }
 
   /** What is said of each interval: when it starts and ends, and in which orders it is besides. */
@@ -282,7 +295,7 @@ class TimelineWords {
   /** Between which places a point is, or at which; nothing if there are none. */
   #bounded(point, verb) {
     const begun = ([how], index) => `${index > 0 ? " and" : verb} ${how} `;
-    const found = this.#around(point).flatMap((one, index) => [begun(one, index), ...this.place(one[1], point >> 1)]);
+    const found = this.#around(point).flatMap((one, index) => [begun(one, index), ...this.#place(one[1], point >> 1)]);
     return found.length > 0 ? [found] : [];
   }
 
