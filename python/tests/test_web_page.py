@@ -221,9 +221,9 @@ class PageTest(unittest.TestCase):
         return self.text("#answer")
 
     def saved(self, name: str) -> bytes:
-        """What was saved by a name."""
+        """What was saved by a name. The browser makes an empty file before it has the content."""
         path, last = self.folder / name, time.monotonic() + PATIENCE
-        while not path.is_file():
+        while not path.is_file() or path.stat().st_size == 0:
             self.assertLess(time.monotonic(), last, f"{name} was not saved")
             time.sleep(0.01)
         return path.read_bytes()
