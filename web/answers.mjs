@@ -1,6 +1,7 @@
 // What tml answers about a document, as blocks that a page shows: sentences, lists, tables and texts with marks.
 import { claimOf, civil, lengthOf, possibleOf, secondsOf } from "./evidence.mjs";
 import { textOf } from "./places.mjs";
+import { modelOf } from "./timeline.mjs";
 import { Status } from "./tml.mjs";
 import { code, said } from "./wording.mjs";
 
@@ -37,11 +38,33 @@ const SHOWN = {
 };
 /** What evidence shows. */
 
+const WORDS = "timeline-words"; // the list of sentences next to a picture
+const MOST_SAID = 20; // what is said of one interval of a picture
+const MOST_LINES = 500; // lines between the bars of a picture
+const KINDS = {
+  event: "an event",
+  exact: "a date",
+  within: "a time within a date",
+  free: "a time without a date",
+};
+const READING = [
+  "An upright line is a start or an end, before all to its right. Places and widths between two lines say nothing.",
+  "A bar is full if its interval lasts there in any case, and outlined if it may last there. It lasts nowhere else.",
+  "A bar that stops short of a line does not reach it. One that touches the line may. A bar without a side has no limit there.",
+  "A mark at the top of a bar: it has begun there in any case. A mark at its foot: it has not ended there.",
+  "An arrow between bars: before. A dashed arrow: before, or at once. A thick line: at once.",
+  "A line meets a bar in its left third for its start, and in its right third for its end. An arrow from middle to middle leads from an "
+    + "end to a start.",
+  "Events are blue, dates yellow, times within a date orange, and times without a date purple.",
+];
+/** What a picture means. */
+
 /** What is answered to each command about an accepted document. The answer of tml has the status and text. */
 const ANSWERS = {
   dates: (wording) => [datesTable(wording)],
   links: (wording) => [linksTable(wording)],
   solve: (wording, { text }) => timelineOf(wording, claimOf(text)),
+  matrix: (wording, { text }) => picture(wording, modelOf(wording, text, wording.signs)),
   ask: (wording, { text }) => relationOf(wording, claimOf(text)),
   possible: (wording, { text }, [first, second]) => possible(wording, possibleOf(textOf(text)), first, second),
   reduce: (wording, { text }) => redundant(wording, textOf(text)),
@@ -116,6 +139,34 @@ function timelineOf(wording, { ends }) {
     paragraph("The table has the one with the least ranks. What it shows beyond the links and dates need not be so in others."),
     ranks(wording, "A timeline that fits, by ranks", ends),
   ];
+}
+
+/** What is so in every timeline that fits, as a picture and in sentences. */
+function picture(wording, model) {
+  const { names, axis, places, rows, listed } = model;
+  const [bars, lines] = [rows.map((row) => ({ ...row, said: [] })), model.lines.slice(0, MOST_LINES)];
+  if (wording.names.length === 0) return [paragraph("The document has no instances and no times, so there is nothing to draw.")];
+  const cut = `The picture has the first ${MOST_LINES} of ${model.lines.length} lines between bars.`;
+  const seen = [
+    { kind: "picture", model: { names, axis, rows: bars, lines }, fillings: wording.fillings, words: WORDS },
+    ...(lines.length < model.lines.length ? [paragraph(cut)] : []),
+    { kind: "details", summary: "How to read the picture", blocks: [list(READING, (one) => [one])] },
+    heading("The axis, from left to right"),
+    sentences(places, (place) => place),
+  ];
+  return [
+    paragraph("All that is shown is so in every timeline that fits the links and dates."),
+    ...(rows.length > 0 ? seen : [paragraph("Nothing says when any of the intervals is, so there is no picture.")]),
+    heading("In sentences"),
+    { ...list([...rows, ...listed], (row) => rowSaid(wording, row)), id: WORDS },
+  ];
+}
+
+/** What is known of an interval, in a sentence. */
+function rowSaid(wording, { name, kind, bar, said: known }) {
+  const found = [...(bar ? [] : [["nothing says when"]]), ...known.slice(0, MOST_SAID)];
+  if (known.length > MOST_SAID) found.push([`and ${known.length - MOST_SAID} more orders`]);
+  return [...wording.interval(name), `, ${KINDS[kind]}: `, ...found.flatMap((one, index) => (index > 0 ? ["; ", ...one] : one)), "."];
 }
 
 function relationOf(wording, claim) {

@@ -1,34 +1,26 @@
 // The part of the page about one document: its verdict, the place of its fault, queries about it, and their answers.
-import { apart, button, coded, foreign, make, nameFor, save } from "./elements.mjs";
+import { apart, button, foreign, make, nameFor, save } from "./elements.mjs";
 import { Stopped } from "./runner.mjs";
 import { verdictName } from "./table.mjs";
-import { block, sentence, sourceLines } from "./view.mjs";
+import { counted, MANY, placeOf, verdictOf } from "./verdict.mjs";
+import { block } from "./view.mjs";
 
-const NOUNS = {
-  events: "event",
-  instances: "instance",
-  timex: "time",
-  signals: "signal",
-  tlinks: "TLINK",
-  alinks: "ALINK",
-  slinks: "SLINK",
-};
 const QUERIES = [
   ["dates", "Dates", "Times by the calendar"],
   ["links", "Links", "Links in words"],
   ["solve", "Timeline or clash", "A timeline that fits, or a clash"],
+  ["matrix", "Picture", "A picture of what is so in every timeline"],
   ["reduce", "Redundant links", "Links that follow from the others"],
   ["seconds", "Whole seconds", "A placing in whole seconds"],
 ];
 /** The command, the text of its button, and the heading of its answer. */
-
-const MANY = new Intl.NumberFormat("en");
 
 /** One document, in a section of the page. */
 export class DocumentView {
   #section;
   #runner;
   #tables;
+  #onedit;
   #title = make("h2", { id: "document-title", tabindex: -1 });
   #body = make("div");
   #answer = make("div", { id: "answer", role: "region", "aria-label": "Answer" });
@@ -36,9 +28,9 @@ export class DocumentView {
   #turn = 0;
   #document = null;
 
-  /** By what runs tasks, and what the page knows of faults and relations. */
-  constructor(section, runner, tables) {
-    [this.#section, this.#runner, this.#tables] = [section, runner, tables];
+  /** By what runs tasks, what the page knows of faults and relations, and what is done with a document that somebody wants to edit. */
+  constructor(section, runner, tables, onedit) {
+    [this.#section, this.#runner, this.#tables, this.#onedit] = [section, runner, tables, onedit];
     section.append(this.#title, this.#body, this.#said, this.#answer);
   }
 
@@ -101,28 +93,12 @@ export class DocumentView {
 
   /** What is known of the document. */
   #about({ verdict, lines, intervals, links }) {
-    if (verdict.kind === "fault") return this.#fault(verdict, lines);
-    if (verdict.kind !== "accepted") return [make("p", { class: "verdict wrong" }, this.#notJudged(verdict))];
-    const counts = Object.entries(verdict.counts).filter(([, count]) => count > 0).map(([name, count]) => counted(count, NOUNS[name]));
-    const accepted = make("p", { class: "verdict good" }, "Accepted: the document keeps the rules.");
+    const edit = make("p", { class: "buttons" }, button("Edit this document", () => this.#onedit(this.#document), { id: "edit" }));
+    const said = verdictOf(verdict, this.#tables.faults);
+    if (verdict.kind === "fault") return [...said, ...placeOf(verdict, lines), edit];
+    if (verdict.kind !== "accepted") return said;
     const others = ["Whether its links contradict each other, ", make("b", {}, "Timeline or clash"), " answers."];
-    const said = make("p", {}, counts.length > 0 ? `It has ${counts.join(", ")}. ` : "", links > 0 ? others : "");
-    return [accepted, said, this.#queries(), this.#pairs(intervals)];
-  }
-
-  #fault({ number, name, line, column, offset }, lines) {
-    const others = "This fault may hide others: fix it, and check again.";
-    return [
-      make("p", { class: "verdict wrong" }, `Fault ${number} ${name}, line ${MANY.format(line)}, column ${MANY.format(column)}`),
-      make("p", { id: "rule" }, coded(this.#tables.faults[name] ?? "This page does not know the fault.")),
-      sourceLines(lines),
-      make("p", { class: "soft" }, `The place is byte ${MANY.format(offset)}, counted from 0. ${others}`),
-    ];
-  }
-
-  #notJudged(verdict) {
-    if (verdict.kind === "unreadable") return "The browser cannot read this file. It may have been moved or changed since, or be no file.";
-    return verdict.kind === "too long" ? "The document is longer than 4,194,304 bytes, which tml does not take." : sentence(verdict.why);
+    return [...said, links > 0 ? make("p", {}, others) : "", this.#queries(), this.#pairs(intervals), edit];
   }
 
   #queries() {
@@ -156,11 +132,6 @@ export class DocumentView {
     ];
     return make("fieldset", {}, make("legend", {}, "Two intervals"), make("div", { class: "query" }, labelled, buttons));
   }
-}
-
-/** A count with its noun. */
-export function counted(count, noun) {
-  return `${MANY.format(count)} ${noun}${count === 1 ? "" : "s"}`;
 }
 
 /** How many documents have which verdict, in one sentence. */

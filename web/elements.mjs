@@ -23,6 +23,14 @@ export function make(name, attributes = {}, ...children) {
   return element;
 }
 
+/** A part of a picture as an element of SVG. */
+export function drawn({ name, attributes, children }) {
+  const element = document.createElementNS(document.getElementById("of-pictures").content.firstElementChild.namespaceURI, name);
+  for (const [key, value] of Object.entries(attributes)) element.setAttribute(key, value);
+  element.append(...children.map((child) => (typeof child === "string" ? child : drawn(child))));
+  return element;
+}
+
 /** A stranger's text, which cannot change the direction of what is around it. */
 export function foreign(text, attributes = {}) {
   return make("bdi", attributes, shown(text));

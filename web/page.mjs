@@ -1,9 +1,11 @@
 // The page: what is given to it becomes documents and evidence, which workers have tml judge.
-import { counted, DocumentView, summary } from "./document.mjs";
+import { DocumentView, summary } from "./document.mjs";
+import { Editor } from "./editor.mjs";
 import { button, foreign, make } from "./elements.mjs";
 import { chosen, dropped, pastedFile } from "./given.mjs";
 import { Runner, Stopped } from "./runner.mjs";
 import { VerdictTable } from "./table.mjs";
+import { counted } from "./verdict.mjs";
 
 const LUMP = 200; // files that are handed to the worker at once
 const PAUSE = 150; // milliseconds between two states of the table, at least
@@ -17,10 +19,11 @@ const script = URL.createObjectURL(new Blob([part("worker").textContent], { type
 const documents = new Map();
 const evidence = [];
 const queue = [];
-const [checks, queries] = [new Runner(startWorker), new Runner(startWorker)];
+const [checks, queries, edits] = [new Runner(startWorker), new Runner(startWorker), new Runner(startWorker)];
 const table = new VerdictTable(part("table"), (key) => choose(documents.get(key), true));
-const view = new DocumentView(part("document"), queries, tables);
-let [given, pasted, isChecking, isDrawing, pause] = [0, 0, false, false, PAUSE];
+const view = new DocumentView(part("document"), queries, tables, (document) => editor.open(document));
+const editor = new Editor(part("write"), edits, tables.faults, () => view.document);
+let [given, texts, isChecking, isDrawing, pause] = [0, 0, false, false, PAUSE];
 
 function startWorker() {
   const worker = new Worker(script);
@@ -163,10 +166,10 @@ function notRead() {
   part("summary").textContent = "The browser cannot read what was dropped. Choose the files or the folder in place of dropping them.";
 }
 
-/** Takes a text as a document. */
-function takeText(text) {
+/** Takes a text as a document, which was pasted or written. */
+function takeText(how, text) {
   const { file, hadHalves } = pastedFile(text);
-  take([{ name: `pasted text ${++pasted}${hadHalves ? " (with U+FFFD for half characters)" : ""}`, file }]);
+  take([{ name: `${how} text ${++texts}${hadHalves ? " (with U+FFFD for half characters)" : ""}`, file }]);
 }
 
 for (const [name, field] of [["choose-files", "files"], ["choose-folder", "folder"]]) {
@@ -177,7 +180,7 @@ for (const [name, field] of [["choose-files", "files"], ["choose-folder", "folde
   });
 }
 part("example").addEventListener("click", () => take([{ name: "port.xml", file: new Blob([tables.example]) }]));
-part("check-pasted").addEventListener("click", () => takeText(part("pasted").value));
+part("take-written").addEventListener("click", () => takeText("written", editor.taken()));
 part("stop-checking").addEventListener("click", () => checks.stop());
 part("go-on").addEventListener("click", () => check());
 
@@ -185,7 +188,7 @@ addEventListener("paste", (event) => {
   const isField = event.target.closest?.("textarea, input");
   const [files, text] = [chosen(event.clipboardData.files), event.clipboardData.getData("text/plain")];
   if (files.length > 0) take(files);
-  else if (!isField && text) takeText(text);
+  else if (!isField && text) takeText("pasted", text);
   if (files.length > 0 || !isField) event.preventDefault();
 });
 addEventListener("dragover", (event) => {
@@ -197,5 +200,5 @@ addEventListener("drop", (event) => {
   event.preventDefault();
   const text = event.dataTransfer.getData("text/plain");
   if (event.dataTransfer.types.includes("Files")) takeDropped(event.dataTransfer).catch(notRead);
-  else if (text) takeText(text);
+  else if (text) takeText("dropped", text);
 });

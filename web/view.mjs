@@ -1,5 +1,6 @@
 // Blocks of an answer as elements of the page.
-import { button, foreign, make, shown } from "./elements.mjs";
+import { button, drawn, foreign, make, shown } from "./elements.mjs";
+import { pictureOf } from "./picture.mjs";
 
 const MOST_AT_ONCE = 200; // items of a list before somebody wants more
 
@@ -21,12 +22,13 @@ export function block(one) {
 const BLOCKS = {
   text: ({ parts }) => make("p", {}, sentence(parts)),
   heading: ({ parts }) => make("h4", {}, sentence(parts)),
-  list: ({ items, left }) => listed("ul", items, left),
-  steps: ({ items, left }) => listed("ol", items, left),
+  list: ({ items, left, id }) => listed(make("ul", { id }), items, left),
+  steps: ({ items, left }) => listed(make("ol"), items, left),
   details: ({ summary, blocks }) => make("details", {}, make("summary", {}, summary), blocks.map(block)),
   table: ({ caption, head, rows }) => tabled(caption, head, rows),
   prose: ({ runs }) => make("p", { class: "prose", dir: "auto" }, runs.map(run)),
   source: ({ lines }) => sourceLines(lines),
+  picture: ({ model, fillings, words }) => pictured(model, fillings, words),
 };
 
 /** The lines of a source, in which a stretch is marked. */
@@ -48,10 +50,24 @@ function run({ text, note, isGap }) {
   return make("mark", {}, foreign(text), make("small", {}, ` ${called}`));
 }
 
-function listed(name, items, left) {
-  const list = make(name);
+function listed(list, items, left) {
   const more = left > 0 ? make("p", {}, `And ${left.toLocaleString("en")} more, which this page does not list.`) : null;
   return make("div", {}, list, growing(list, items.map((parts) => () => make("li", {}, sentence(parts)))), more);
+}
+
+/** The picture of a timeline, drawn anew if the page gets broader or narrower. A list with an id has the same in words. */
+function pictured(model, fillings, words) {
+  const wide = make("div", { class: "picture", tabindex: 0, role: "region", "aria-label": "Picture of the timeline" });
+  let drawnFor = 0;
+  new ResizeObserver(() => {
+    if (wide.clientWidth === drawnFor) return;
+    drawnFor = wide.clientWidth;
+    const picture = drawn(pictureOf(model, drawnFor / 2, fillings));
+    picture.setAttribute("aria-label", `Timeline of ${model.rows.length} intervals`);
+    picture.setAttribute("aria-describedby", words);
+    wide.replaceChildren(picture);
+  }).observe(wide);
+  return wide;
 }
 
 function tabled(caption, head, rows) {

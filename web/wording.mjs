@@ -1,11 +1,17 @@
 // Sentences about the intervals, points and links of a document. A sentence is a list of parts: plain texts of this page; `said`, which
 // is a text of the document; `code`, a name or a value in it; and `link`, the number of a link with what it is called.
+import { cut } from "./source.mjs";
+
+const LONGEST_NAME = 200; // characters of a name, which may be in thousands of sentences
 
 /** A text of the document. */
 export const said = (text) => ({ said: text });
 
 /** A name or a value in a document. */
 export const code = (text) => ({ code: text });
+
+/** The name of an interval. */
+const named = (name) => code(cut(name.slice(0, 4 * LONGEST_NAME), LONGEST_NAME));
 
 /** What is said of one document by what tml prints for `check` and `dates`. */
 export class Wording {
@@ -33,13 +39,13 @@ export class Wording {
   /** The text of an interval, or its name. */
   short(name) {
     const text = this.source.textOf(name);
-    return text ? said(text) : code(name);
+    return text ? said(text) : named(name);
   }
 
   /** An interval by its text and its name. */
   interval(name) {
     const text = this.source.textOf(name);
-    return text ? [said(text), " (", code(name), ")"] : [code(name)];
+    return text ? [said(text), " (", named(name), ")"] : [named(name)];
   }
 
   /** The start or the end of an interval, by its number: even for a start, and odd for an end. */
@@ -50,7 +56,7 @@ export class Wording {
   /** A link in words, with its name and those of its intervals. */
   link(number) {
     const { left, relation, right } = this.source.links[number];
-    const names = [{ link: number, called: this.source.called(number) }, ": ", code(left), ` ${relation} `, code(right)];
+    const names = [{ link: number, called: this.source.called(number) }, ": ", named(left), ` ${relation} `, named(right)];
     return [this.short(left), ` ${relation} `, this.short(right), " (", ...names, ")"];
   }
 

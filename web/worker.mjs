@@ -17,7 +17,7 @@ let held = { key: null };
 let last = Promise.resolve();
 
 /** The tasks by their names. */
-const TASKS = { check: checkAll, look, query, judge };
+const TASKS = { check: checkAll, look, query, judge, write: judgeText };
 
 onmessage = ({ data }) => {
   if (data.module) {
@@ -100,15 +100,31 @@ async function look(tml, { key, file }) {
   if (verdict.kind !== "accepted") return { verdict };
   const source = new Source(bytes, textOf(tml.run(["spans", "first"], bytes).text), textOf(answered.text));
   const wording = new Wording(source, textOf(tml.run(["dates", "first"], bytes).text), tables.orders);
-  held = { key, bytes, wording: Object.assign(wording, { base: tables.base }) };
+  held = { key, bytes, wording: Object.assign(wording, { base: tables.base, signs: tables.signs, fillings: tables.fillings }) };
   return { verdict, intervals: source.intervals.map((name) => ({ name, text: source.textOf(name) })), links: source.links.length };
 }
 
 /** The lines around a fault, with the tag or the character that is at fault. */
-function markedLines(tml, bytes, { number, offset }) {
+function markedLines(tml, bytes, verdict) {
+  return new Places(bytes).around(...stretchOf(tml, bytes, verdict));
+}
+
+/** From where to where a document is at fault: a tag or a character. */
+function stretchOf(tml, bytes, { number, offset }) {
   const spans = number > CHECKED_BY_SPANS ? textOf(tml.run(["spans", "first"], bytes).text) : "";
   const [, end] = spans.match(new RegExp(`^${offset} (\\d+) (?:start|end|empty|text|comment|declaration|doctype)`, "m")) ?? [];
-  return new Places(bytes).around(offset, Math.min(end ? Number(end) : offset + 1, bytes.length));
+  return [offset, Math.min(end ? Number(end) : offset + 1, bytes.length)];
+}
+
+/** The verdict on a text, and the stretch of it that is at fault, in its characters as scripts count them. */
+function judgeText(tml, { text }) {
+  const bytes = new TextEncoder().encode(text);
+  const verdict = verdictOf(tml.run(["check", "first"], bytes), bytes);
+  if (verdict.kind !== "fault") return { verdict };
+  const stretch = stretchOf(tml, bytes, verdict);
+  // Fields of a page have line feeds alone.
+  const marked = stretch.map((offset) => textOf(bytes.subarray(0, offset)).replaceAll("\r\n", "\n").length);
+  return { verdict, lines: new Places(bytes).around(...stretch), marked };
 }
 
 /** What tml answers to a query about an accepted document, with evidence if it prints some. */
@@ -118,7 +134,7 @@ async function query(tml, { key, file, command, args }) {
   const { bytes, wording } = held;
   const answered = command === "links" ? { status: Status.DONE, text: NOTHING_SAID } : tml.run([command, "first", ...args], bytes);
   const names = args.filter((_, index) => index === 0 || index === args.length - 1);
-  const isEvidence = /^tml-(evidence|seconds) /.test(textOf(answered.text.subarray(0, 20)));
+  const isEvidence = /^tml-(evidence|seconds) \d+\n/.test(textOf(answered.text.subarray(0, 20)));
   return { blocks: blocksOf(wording, command, answered, names), evidence: isEvidence ? answered.text : null };
 }
 

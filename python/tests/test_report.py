@@ -3,9 +3,11 @@
 import os
 import re
 import subprocess
+import tempfile
 import unittest
 import xml.etree.ElementTree as ElementTree
 from collections.abc import Mapping
+from pathlib import Path
 
 from browser import Browser, needs_browser
 from corpus import TML, TOP, CorpusTest, document, needed, needs_matrix, text_at
@@ -397,6 +399,27 @@ class Parts(unittest.TestCase):
         self.assertNotIn("Interrupted", index_of(entries, 1))
         self.assertIn("Interrupted: 1 of 3 documents were looked at.", index_of(entries, 3))
         self.assertIn("Report on 0 documents", index_of([], 0))
+
+    def test_a_link_to_the_page_for_browsers_if_it_is_there(self) -> None:
+        from tml_corpus.asking.program import CannotRun
+        from tml_corpus.pages.report import Folder
+
+        with tempfile.TemporaryDirectory() as held:
+            page, index = Path(held, "tml.html"), Path(held, "index.html")
+            page.write_text("mine", encoding="utf-8")
+            folder = Folder(held)
+            folder.prepare()
+            folder.write_index(0)
+            links = [one.get("href") for one in ElementTree.fromstring(index.read_bytes()).iter(XHTML + "a")]
+            self.assertEqual((links, page.read_text(encoding="utf-8")), (["tml.html"], "mine"))
+            page.unlink()
+            folder.write_index(0)
+            self.assertNotIn("tml.html", index.read_text(encoding="utf-8"))
+        with tempfile.TemporaryDirectory() as held:
+            for name in ("tml.html", "notes.txt"):
+                Path(held, name).touch()
+            with self.assertRaisesRegex(CannotRun, "not part of a report"):
+                Folder(held).prepare()
 
     def test_readable_texts(self) -> None:
         from tml.markup import harmless

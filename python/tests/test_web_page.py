@@ -221,9 +221,9 @@ class PageTest(unittest.TestCase):
         return self.text("#answer")
 
     def saved(self, name: str) -> bytes:
-        """What was saved by a name."""
+        """What was saved by a name. The browser makes an empty file before it has the content."""
         path, last = self.folder / name, time.monotonic() + PATIENCE
-        while not path.is_file():
+        while not path.is_file() or path.stat().st_size == 0:
             self.assertLess(time.monotonic(), last, f"{name} was not saved")
             time.sleep(0.01)
         return path.read_bytes()
@@ -275,10 +275,10 @@ class Given(PageTest):
         )
         self.judged()
         self.assertEqual(self.text("#document p.verdict"), "Fault 10 MissingAttribute, line 2, column 3")
-        self.value(f"document.querySelector('#pasted').value = {json.dumps('<TimeML>' + chr(0xD800) + '</TimeML>')}")
-        self.click("#check-pasted")
+        self.value(f"document.querySelector('#written').value = {json.dumps('<TimeML>' + chr(0xD800) + '</TimeML>')}")
+        self.click("#take-written")
         self.judged(2)
-        self.assertEqual(self.texts("#verdicts .name"), ["pasted text 1", "pasted text 2 (with U+FFFD for half characters)"])
+        self.assertEqual(self.texts("#verdicts .name"), ["pasted text 1", "written text 2 (with U+FFFD for half characters)"])
         self.assertEqual(self.texts("#verdicts tbody td:nth-child(2)"), ["fault", "accepted"])
         self.value(
             """(() => { const given = new DataTransfer(); given.items.add(new File(["<TimeML/>"], "copied.xml"));
@@ -356,7 +356,7 @@ class Said(PageTest):
             with self.subTest(name):
                 self.value(f"[...document.querySelectorAll('#verdicts .name')].find((one) => one.textContent === '{name}.xml').click()")
                 self.until(f"document.querySelector('#document p.verdict')?.textContent.startsWith('Fault {number} {name}, line ')")
-                self.assertEqual(self.text("#rule"), SENTENCES[number].replace("`", ""))
+                self.assertEqual(self.text("#document .rule"), SENTENCES[number].replace("`", ""))
 
     def test_the_place_of_a_fault(self) -> None:
         self.choose(self.write("d.xml", RATES.read_bytes().replace(b'eventInstanceID="ei2"', b'eventInstanceID="e2"')))
@@ -459,7 +459,7 @@ class Used(PageTest):
         self.until("document.querySelector('#answer').textContent === 'Stopped.'")
         self.assertIn("A clash", self.answer("solve"))
         self.value(
-            """document.querySelector('#pasted').value = '<TimeML/>'; document.querySelector('#check-pasted').click();
+            """document.querySelector('#written').value = '<TimeML/>'; document.querySelector('#take-written').click();
         document.querySelector('#stop-checking').click()"""
         )
         self.until("!document.querySelector('#stopped').hidden")
@@ -509,7 +509,7 @@ class Used(PageTest):
         while self.value("document.activeElement.className") != "name":
             self.browser.press("Tab", 9)
             found.append(self.value("document.activeElement.id || document.activeElement.textContent"))
-        names = ["choose-files", "choose-folder", "example", "Paste a document", "search", "verdict"]
+        names = ["choose-files", "choose-folder", "example", "Write or paste a document", "search", "verdict"]
         self.assertEqual(list(dict.fromkeys(name for name in found if name in names)), names)
         self.browser.press("ArrowDown", 40)
         self.browser.press("End", 35)

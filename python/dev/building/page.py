@@ -16,10 +16,13 @@ from building.linking import CannotMake
 from tml.explaining.faults import SENTENCES
 from tml.markup import data
 from tml.statuses import BASE_RELATIONS, FAULT_NAMES, ORDERS
+from tml_corpus.figure.shapes import FILLINGS, PALE
+from tml_corpus.matrix.orders import SIGNS
 from tml_corpus.pages.colours import variables
+from tml_corpus.pages.index import FOR_BROWSERS
 
 SOURCES = TOP / "web"
-NAME = "tml.html"
+NAME = FOR_BROWSERS
 EXAMPLE = TOP / "samples/port.xml"
 PLACES = {
     "policy": '<meta http-equiv="Content-Security-Policy" content="default-src \'self\'">',
@@ -89,9 +92,15 @@ def inlined(element: str, attributes: str, text: str) -> str:
 
 
 def tables() -> dict[str, object]:
-    """The tables of the scripts: the sentence on each fault, the orders of each relation, and a document to begin with."""
-    faults = {name: SENTENCES[number] for number, name in enumerate(FAULT_NAMES, 1)}
-    return {"faults": faults, "orders": ORDERS, "base": BASE_RELATIONS, "example": EXAMPLE.read_text(encoding="utf-8")}
+    """The tables of the scripts: the sentence on each fault, the orders of each relation, colours, and a document to begin with."""
+    return {
+        "faults": {name: SENTENCES[number] for number, name in enumerate(FAULT_NAMES, 1)},
+        "orders": ORDERS,
+        "base": BASE_RELATIONS,
+        "signs": SIGNS,
+        "fillings": {kind: {"full": colour, "pale": PALE.get(kind, colour)} for kind, (colour, _) in FILLINGS.items()},
+        "example": EXAMPLE.read_text(encoding="utf-8"),
+    }
 
 
 def bundled(name: str) -> str:

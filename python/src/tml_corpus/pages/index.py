@@ -14,6 +14,9 @@ from ..timeline.lettering import plain
 from .documents import Entry
 from .frame import coded, framed, isolated
 
+FOR_BROWSERS = "tml.html"
+"""The page for browsers, which may lie next to the index."""
+
 WITHOUT_PLACE = "dates without a calendar place"
 
 COLUMNS = (
@@ -46,8 +49,8 @@ EXPLAINED = (
 )
 
 
-def index_of(entries: Sequence[Entry], expected: int) -> str:
-    """The whole page, as a file. Where not all documents were looked at it says so."""
+def index_of(entries: Sequence[Entry], expected: int, is_linked: bool = False) -> str:
+    """The whole page, as a file, perhaps with a link to the page for browsers. If not all documents were looked at it says so."""
     title = f"Report on {counted(len(entries), 'document')}"
     missing = f"Interrupted: {len(entries):,} of {counted(expected, 'document')} were looked at."
     heads = element("tr", *(element("th", name, scope="col", data_kind=kind) for name, kind in COLUMNS))
@@ -64,6 +67,7 @@ def index_of(entries: Sequence[Entry], expected: int) -> str:
         element("p", element("strong", missing)) if len(entries) < expected else NOTHING,
         totals(entries),
         element("p", EXPLAINED, class_="explained"),
+        element("p", element("a", "Check and query documents here, without a server", href=FOR_BROWSERS)) if is_linked else NOTHING,
         element("div", id="search"),
         element("div", "\n", lined(table), class_="wide", tabindex="0", role="region", aria_label="Documents"),
     )
@@ -72,17 +76,14 @@ def index_of(entries: Sequence[Entry], expected: int) -> str:
 def totals(entries: Sequence[Entry]) -> Markup:
     """What became of the documents, the kinds of faults and warnings, and the sums."""
     counts = [entry.counts for entry in entries if entry.counts is not None]
-    pairs, decided = (sum(getattr(one, name) or 0 for one in counts) for name in ("pairs", "decided"))
     sums = Counter(
         {"clashes": sum(entry.clashes for entry in entries), "links between dates that touch": sum(entry.touching for entry in entries)}
     )
     sums[WITHOUT_PLACE] = sum(one.free_dates for one in counts)
-    sums["pairs of intervals"], sums["decided pairs"] = pairs, decided
+    sums["pairs of intervals"], sums["decided pairs"] = (sum(getattr(one, name) or 0 for one in counts) for name in ("pairs", "decided"))
     faults = Counter(entry.said for entry in entries if entry.verdict == "fault")
-    warnings, relations = Counter[str](), Counter[str]()
-    for entry in entries:
-        warnings.update(entry.warnings)
-        relations.update(entry.counts.relations if entry.counts is not None else ())
+    warnings = sum((entry.warnings for entry in entries), Counter[str]())
+    relations = sum((one.relations for one in counts), Counter[str]())
     tables = [
         listed("Verdicts", Counter(entry.verdict for entry in entries).most_common(), verdict),
         listed("Faults, by the first one of each document", sorted(faults.items(), key=lambda item: int(item[0].split(" ")[0]))),
@@ -141,10 +142,9 @@ def numbers_of(entry: Entry) -> list[int | None]:
     counts = entry.counts
     if counts is None:
         return [None] * 9
-    shared: list[int | None] = [entry.clashes, entry.touching, entry.warnings.total(), counts.free_dates, counts.intervals, counts.links]
-    if counts.pairs is None or counts.decided is None:
-        return [*shared, None, None, None]
-    return [*shared, counts.pairs, counts.decided, 100 * counts.decided // counts.pairs if counts.pairs else None]
+    share = 100 * (counts.decided or 0) // counts.pairs if counts.pairs else None
+    own = entry.clashes, entry.touching, entry.warnings.total(), counts.free_dates, counts.intervals
+    return [*own, counts.links, counts.pairs, counts.decided, share]
 
 
 def number_cell(number: int | None) -> Markup:

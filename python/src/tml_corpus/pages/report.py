@@ -19,7 +19,7 @@ from ..clash.report import ClashReport, Wanted
 from ..files.finding import Found, reason, shown
 from ..files.replacing import make_folder, replace_file
 from .documents import Entry, entry_of, examine, not_examined
-from .index import index_of
+from .index import FOR_BROWSERS, index_of
 from .page import page_of
 from .script import DOCUMENT_SCRIPT, INDEX_SCRIPT
 from .style import STYLE
@@ -53,10 +53,10 @@ class Folder:
         """Makes the folder, and writes what the pages share. One that has other files is refused, so that none of these is lost."""
         make_folder(self.path)
         try:
-            names = os.listdir(self.path)
+            names = {*os.listdir(self.path)} - {FOR_BROWSERS}
         except OSError as error:
             raise CannotRun(f"the folder {self.path} cannot be read: {reason(error)}") from None
-        if names and not set(SHARED) <= set(names):
+        if names and not names >= set(SHARED):
             raise CannotRun(f"{self.path} has files that are not part of a report: name a new folder, or that of an earlier report")
         for name, text in SHARED.items():
             write_page(self.path, name, text)
@@ -64,7 +64,7 @@ class Folder:
 
     def write_index(self, expected: int) -> None:
         """Writes the index of the documents that were looked at."""
-        write_page(self.path, INDEX, index_of(self.entries, expected))
+        write_page(self.path, INDEX, index_of(self.entries, expected, os.path.isfile(os.path.join(self.path, FOR_BROWSERS))))
 
     def last_line(self) -> str:
         """Where the report is."""
