@@ -1,4 +1,4 @@
-"""The tar file: the two programs with their manual pages and completion, in folders as below /usr/local. And files as archives have them."""
+"""The tar file: the two programs with their manual pages and completion, in folders as below /usr/local."""
 
 from __future__ import annotations
 

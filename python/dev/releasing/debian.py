@@ -115,6 +115,7 @@ def library_package(source: Source, built: Outputs, notices: bytes, depends: str
     tree: Tree = {
         f"{FOLDER}/{LIBRARY}.so.{source.version}": File(built.shared),
         f"{FOLDER}/{SONAME}": Link(f"{LIBRARY}.so.{source.version}"),
+        f"usr/share/lintian/overrides/{LIBRARY}": File(template("library-overrides")),
         **about(LIBRARY, source, notices),
     }
     tree |= control_of(tree, library_fields(LIBRARY, "libs", source, depends))
@@ -140,8 +141,9 @@ def library_fields(package: str, section: str, source: Source, depends: str) -> 
     """The fields of a package of the library."""
     return {
         "Package": package,
-        "Section": section,
         "Version": source.version,
+        "Section": section,
+        "Priority": "optional",
         "Architecture": "amd64",
         "Maintainer": source.maintainer,
         "Multi-Arch": "same",
@@ -186,7 +188,7 @@ def deb(tree: Tree, time: int) -> bytes:
         root.mkdir()
         write_tree(root, tree)
         set_times(root, time)
-        run(["dpkg-deb", "--build", "--root-owner-group", "-Zxz", str(root), str(package)], SOURCE_DATE_EPOCH=str(time))
+        run(["dpkg-deb", "--build", "--root-owner-group", "-Zxz", "-z3", str(root), str(package)], SOURCE_DATE_EPOCH=str(time))
         return package.read_bytes()
 
 

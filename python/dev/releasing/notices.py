@@ -68,4 +68,4 @@ def below_in_kit(kit: Path, crate: str) -> list[str]:
 def licence_of(kit: Path, crate: str) -> str | None:
     """The licences of a crate of the kit, one after the other; None if there is none."""
     paths = sorted((kit / "rattle" / crate).glob("LICENSE*"))
-    return "\n\n".join(path.read_text(encoding="utf-8").strip() for path in paths) or None
+    return "\n\n".join(path.read_text(encoding="utf-8").rstrip().strip("\n") for path in paths) or None

@@ -4,6 +4,7 @@ from __future__ import annotations
 
 import tempfile
 from dataclasses import dataclass
+from functools import cache
 from pathlib import Path
 
 from building.compiling import OUT, TOP, files_of
@@ -63,9 +64,14 @@ def need_all() -> None:
         raise CannotMake(f"no {', '.join(map(shown, missing))}: {MADE_BY[missing[0]][1]} makes what is missing")
     uses = dict(listed())
     for path, (crate, _) in MADE_BY.items():
-        files = (file for name in (crate, *libraries_below(crate, uses)) for file in files_of(name))
-        if max((file.stat().st_mtime for file in files), default=0) > path.stat().st_mtime:
+        if max(map(changed, (crate, *libraries_below(crate, uses)))) > path.stat().st_mtime:
             raise CannotMake(f"crates were changed after {shown(path)} was made: .ci/run makes it anew")
+
+
+@cache
+def changed(crate: str) -> float:
+    """When a file of a crate was changed last, in seconds from 1970."""
+    return max((file.stat().st_mtime for file in files_of(crate)), default=0.0)
 
 
 def binary_at(path: Path) -> bytes:
