@@ -110,8 +110,13 @@ def copy_at(top: Path) -> None:
 def release(copy: Path, folder: Path, umask: int = -1) -> subprocess.CompletedProcess[str]:
     """Runs `tools/release` of a copy, whose kit is that of its folder."""
     words, path = [*BARE, str(copy / "tools/release"), str(folder)], f"{copy.parent}/kit/bin:{os.environ['PATH']}"
-    variables = {**os.environ, **COMMIT, "PATH": path}
+    variables = {**os.environ, **COMMIT, **compiled_below(copy.parent), "PATH": path}
     return subprocess.run(words, env=variables, capture_output=True, text=True, check=False, timeout=PATIENCE, umask=umask)
+
+
+def compiled_below(folder: Path) -> dict[str, str]:
+    """The variables by which modules that many processes import are compiled once: next to those of all tests, or else in a folder."""
+    return {"PYTHONDONTWRITEBYTECODE": "", "PYTHONPYCACHEPREFIX": os.environ.get("PYTHONPYCACHEPREFIX", f"{folder}/bytecode")}
 
 
 def entries(path: Path) -> dict[str, Entry]:
