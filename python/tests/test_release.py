@@ -466,9 +466,13 @@ class Parts(unittest.TestCase):
         self.assertIn("Permission is hereby granted, free of charge", text)
 
     def test_what_is_tried(self) -> None:
-        ran("sh", "-n", "-c", trying.script_of())
-        patterns = set(re.findall(r"/release/(\S+)", " ".join(trying.STEPS.values())))
+        ran("sh", "-n", trying.SCRIPT)
+        patterns = re.findall(r"/release/(\S+)", trying.SCRIPT.read_text(encoding="utf-8"))
         self.assertEqual({tuple(fnmatch.filter(FILES, pattern)) for pattern in patterns}, {(name,) for name in (*DEBS, TAR, *wheels())})
+
+    def test_what_is_no_release_is_not_tried(self) -> None:
+        with self.assertRaisesRegex(CannotMake, " is no release: it has no SHA256SUMS$"):
+            trying.try_release(FOLDER / "copy")
 
 
 if __name__ == "__main__":
