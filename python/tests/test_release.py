@@ -198,8 +198,8 @@ class Installed(unittest.TestCase):
     @classmethod
     def setUpClass(cls) -> None:
         cls.target = FOLDER / "target"
-        words = ["--quiet", "--no-index", "--no-compile", "--target", cls.target, FOLDER / "made" / wheels()[1]]
-        ran(*WITH_PACKAGES, "-m", "pip", "install", *words, **{"PYTHONPYCACHEPREFIX": ""})
+        words = ["--quiet", "--no-index", "--no-compile", "--target", str(cls.target), str(FOLDER / "made" / wheels()[1])]
+        ran(*WITH_PACKAGES, "-m", "pip", "install", *words, PYTHONPYCACHEPREFIX="")
 
     def run_words(self, *words: str | Path) -> tuple[int, str, str]:
         """The status and both streams of a program that finds nothing but what is installed, and that by no variable of ours."""
