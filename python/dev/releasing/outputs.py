@@ -42,11 +42,11 @@ def outputs() -> Outputs:
     """What was built, once all of it is there, is of the crates as they are now, and answers."""
     need_all()
     contents = {path: binary_at(path) if path in BINARIES else path.read_bytes() for path in MADE_BY}
-    answered = said_by(contents[PROGRAM], "drill", "1")
+    answered = said_by(PROGRAM, contents[PROGRAM], "drill", "1")
     if not (answered.startswith("drill 1\n") and answered.endswith("\nverified timeline\n")):
         raise CannotMake(f"{shown(PROGRAM)} does not answer `drill 1` as tml does")
     sample = TOP / "crates/tml_verify/data/rates"
-    if said_by(contents[CHECKER], f"{sample}.xml", f"{sample}.evidence").encode() != read("crates/tml_verify/stdout"):
+    if said_by(CHECKER, contents[CHECKER], f"{sample}.xml", f"{sample}.evidence").encode() != read("crates/tml_verify/stdout"):
         raise CannotMake(f"{shown(CHECKER)} does not verify a sample as tml-verify does")
     try:
         of_library = Library(str(SHARED)).answer("drill", (), ["1"])
@@ -84,13 +84,16 @@ def binary_at(path: Path) -> bytes:
     return content
 
 
-def said_by(program: bytes, *arguments: str) -> str:
-    """What a program prints, run out of a folder of its own."""
+def said_by(path: Path, content: bytes, *arguments: str) -> str:
+    """What a program prints, of which this is the path and the content. It runs out of a folder of its own."""
     with tempfile.TemporaryDirectory() as folder:
-        path = Path(folder, "program")
-        path.write_bytes(program)
-        path.chmod(0o755)
-        return run([str(path), *arguments])
+        program = Path(folder, path.name)
+        program.write_bytes(content)
+        program.chmod(0o755)
+        try:
+            return run([str(program), *arguments])
+        except CannotMake as problem:
+            raise CannotMake(f"{shown(path)} does not answer: {problem}") from None
 
 
 def shown(path: Path) -> str:

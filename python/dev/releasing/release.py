@@ -3,7 +3,7 @@
 - two wheels for pip, one with the programs, the library and the packages of Python, and one of Python alone;
 - the packages tml-timeml, libtml and libtml-dev for Debian, and a tar file of the programs with their manual pages and completion;
 - tml.html, tml.wasm, tml.mjs and tml.d.mts, if tools/web/build has made them;
-- NOTICES, with the licences of what is linked in; MANIFEST, with what all was made from; and SHA256SUMS.
+- NOTICES, with the licences of what is linked in; MANIFEST, which says what they were made from; and SHA256SUMS.
 
 The same commit gives the same bytes: all files have the time of the commit. With --test it tries such a folder, in a new Debian 12
 that `mmdebstrap` makes: whether each file installs there, answers, and is removed again.
