@@ -13,6 +13,7 @@ import shutil
 import stat
 import subprocess
 import tempfile
+import time
 import unittest
 from base64 import urlsafe_b64decode
 from pathlib import Path
@@ -449,6 +450,8 @@ class Parts(unittest.TestCase):
     def test_without_files_for_browsers(self) -> None:
         with mock.patch.object(browsers, "FOLDER", FOLDER / "made"):
             self.assertEqual(set(browsers.web_files()), set(WEB))
+            with mock.patch.object(browsers, "changed_below", return_value=time.time() + 1):
+                self.assertEqual(browsers.web_files(), {}, "they are older than the crates")
         with mock.patch.object(browsers, "FOLDER", FOLDER):
             self.assertEqual(browsers.web_files(), {})
         build = "tools/web/build crates/tml_c/out/web"

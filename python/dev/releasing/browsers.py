@@ -3,20 +3,21 @@
 from __future__ import annotations
 
 import shutil
-from pathlib import Path
 
-from building.compiling import OUT
-from building.page import NAME
-from building.web import HANDED_OUT, PROGRAMS
+from building import compiling, page
+from building.web import HANDED_OUT, PROGRAMS, SOURCES
+from releasing.outputs import changed_below
 
-FOLDER = OUT / "web"
-NAMES = (NAME, "tml.wasm", *HANDED_OUT)
+FOLDER = compiling.OUT / "web"
+NAMES = (page.NAME, "tml.wasm", *HANDED_OUT)
 
 
 def web_files() -> dict[str, bytes]:
-    """All of them by their names; none if one is missing."""
+    """All of them by their names; none if one is missing, or older than what it is made of."""
     paths = [FOLDER / name for name in NAMES]
-    return {path.name: path.read_bytes() for path in paths} if all(map(Path.is_file, paths)) else {}
+    newest = max(changed_below(compiling.NAME), *(path.stat().st_mtime for path in SOURCES.iterdir()))
+    are_made = all(path.is_file() and path.stat().st_mtime >= newest for path in paths)
+    return {path.name: path.read_bytes() for path in paths} if are_made else {}
 
 
 def what_makes_them() -> str:

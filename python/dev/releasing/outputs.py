@@ -62,10 +62,14 @@ def need_all() -> None:
     missing = [path for path in MADE_BY if not path.is_file()]
     if missing:
         raise CannotMake(f"no {', '.join(map(shown, missing))}: {MADE_BY[missing[0]][1]} makes what is missing")
-    uses = dict(listed())
     for path, (crate, _) in MADE_BY.items():
-        if max(map(changed, (crate, *libraries_below(crate, uses)))) > path.stat().st_mtime:
+        if changed_below(crate) > path.stat().st_mtime:
             raise CannotMake(f"crates were changed after {shown(path)} was made: .ci/run makes it anew")
+
+
+def changed_below(crate: str) -> float:
+    """When a file of a crate, or of one below it, was changed last, in seconds from 1970."""
+    return max(map(changed, (crate, *libraries_below(crate, dict(listed())))))
 
 
 @cache
