@@ -22,8 +22,8 @@ from unittest import mock
 import tomllib
 
 import tml
-from building.linking import CannotMake, folder_of_kit
-from corpus import TOP, match_in, text_at
+from building.linking import CannotMake
+from corpus import TOP, match_in, needed, text_at
 from installing import CAN_INSTALL, CANNOT
 from processes import BARE, PATIENCE, WITH_PACKAGES
 from released import BUILT, IS_BUILT, MISSING, TIME, WEB, Entry, compiled, compiled_below, copy_at, entries, kit_at, ran, release
@@ -165,8 +165,8 @@ class Wheels(unittest.TestCase):
 
     def test_the_tag_is_of_the_newest_symbol(self) -> None:
         contents = b"".join(path.read_bytes() for path in binaries())
-        needed = max((int(first), int(second)) for first, second in re.findall(rb"\0GLIBC_(\d+)\.(\d+)", contents))
-        tag = "py3-none-manylinux_{}_{}_x86_64".format(*max(needed, (2, 5)))
+        newest = max((int(first), int(second)) for first, second in re.findall(rb"\0GLIBC_(\d+)\.(\d+)", contents))
+        tag = "py3-none-manylinux_{}_{}_x86_64".format(*max(newest, (2, 5)))
         fields = email.message_from_bytes(FILES[wheels()[1]][f"{INFO}/WHEEL"].content)
         self.assertEqual((fields["Tag"], fields["Root-Is-Purelib"], fields["Wheel-Version"]), (tag, "false", "1.0"))
         fields = email.message_from_bytes(FILES[wheels()[0]][f"{INFO}/WHEEL"].content)
@@ -295,10 +295,10 @@ class Packages(unittest.TestCase):
     def test_fields(self) -> None:
         glibc = "libc6 (>= {}.{})".format(*glibc_of(binaries()))
         depends = {"tml-timeml": f"{glibc}, python3 (>= 3.11)", "libtml": glibc, "libtml-dev": f"libtml (= {VERSION})"}
-        for package, needed in depends.items():
+        for package, others in depends.items():
             fields = self.fields(package)
             wanted = {"Package": package, "Version": VERSION, "Architecture": "amd64", "Maintainer": "A Name <a@example.org>"}
-            self.assertEqual({name: fields.get(name) for name in (*wanted, "Depends")}, {**wanted, "Depends": needed})
+            self.assertEqual({name: fields.get(name) for name in (*wanted, "Depends")}, {**wanted, "Depends": others})
         fields = self.fields("tml-timeml")
         self.assertEqual((fields["Recommends"], fields["Conflicts"]), (f"libtml (= {VERSION})", "tml"))
 
@@ -327,10 +327,9 @@ class Packages(unittest.TestCase):
     @needs_built
     @unittest.skipUnless(shutil.which("lintian"), "no program lintian")
     def test_lintian_misses_the_licence_alone(self) -> None:
-        words = ["lintian", *(str(FOLDER / "made" / deb) for deb in DEBS)]
-        done = subprocess.run(words, capture_output=True, text=True, timeout=600, check=False)
-        wanted = {f"W: {package}: copyright-without-copyright-notice" for package in ("tml-timeml", *LIBTML)}
-        self.assertEqual({line for line in done.stdout.splitlines() if line[1:2] == ":"}, wanted)
+        done = subprocess.run(["lintian", FOLDER / "made" / DEBS[0]], capture_output=True, text=True, timeout=600, check=False)
+        said = [line for line in done.stdout.splitlines() if line[1:2] == ":"]
+        self.assertEqual(said, ["W: tml-timeml: copyright-without-copyright-notice"])
 
 
 class Unpacked(unittest.TestCase):
@@ -462,7 +461,7 @@ class Parts(unittest.TestCase):
 
     @unittest.skipUnless(shutil.which("rt"), "no rt: a kit has it")
     def test_notices_of_the_kit(self) -> None:
-        kit = Path(folder_of_kit())
+        kit = Path(os.path.realpath(needed(shutil.which("rt")))).parents[1]
         text = notices.notices_of(kit, "this kit").decode()
         named = [name for names in re.findall("^== .* of the Rattle kit: (.*)$", text, re.MULTILINE) for name in names.split(", ")]
         self.assertEqual(sorted(named), sorted(notices.linked_crates(kit)))
