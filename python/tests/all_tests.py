@@ -25,7 +25,7 @@ from one_file import Ran, Skipped, run
 LONGEST = (
     "test_corpus_library", "test_cluster", "test_attacks_documents", "test_web", "test_library_rows", "test_differential", "test_library",
     "test_recipes", "test_small_nets", "test_refused_memory", "test_pool", "test_reference", "test_serve", "test_attacks_output",
-    "test_attacks_room", "test_timeline", "test_report", "test_python", "test_matrix", "test_package", "test_misuse", "test_placed",
+    "test_attacks_room", "test_timeline", "test_report", "test_python", "test_matrix", "test_release", "test_misuse", "test_placed",
     "test_explain", "test_web_page", "test_installed", "test_serve_protocol", "test_inquiry", "test_attacks_programs", "test_check",
     "test_cures",
 )  # fmt: skip

@@ -58,7 +58,7 @@ def installed() -> Iterator[None]:
 
 def link_tools(folder: Path) -> None:
     """Makes a folder as tools/ is, beside what is installed: with the installed commands in the place of the programs of the clone."""
-    from building.package import SCRIPTS
+    from releasing.debian import SCRIPTS
 
     (folder / "tools").mkdir()
     for path in (TOP / "tools").iterdir():

@@ -15,7 +15,7 @@ from collections.abc import Iterator
 from pathlib import Path
 
 TOP = Path(__file__).resolve().parents[2]
-FOLDERS = ("python/src", "python/dev/building", "python/dev/differential", "python/dev/reference")
+FOLDERS = ("python/src", "python/dev/building", "python/dev/differential", "python/dev/reference", "python/dev/releasing")
 LIST = Path(__file__).with_name("messages.txt")
 
 WORD = r"(?:-{0,2}[A-Za-z][A-Za-z'-]*[A-Za-z]|a|I|\{\})"

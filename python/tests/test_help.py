@@ -4,9 +4,9 @@ import os
 import tempfile
 import unittest
 
-from building.package import SCRIPTS
 from corpus import TOOLS
 from forked import run_forked
+from releasing.debian import SCRIPTS
 
 
 class Help(unittest.TestCase):

@@ -1,5 +1,6 @@
 """`pip install .`: that all modules and their data are installed, and that the commands and both packages work from there."""
 
+import email
 import os
 import re
 import shutil
@@ -16,6 +17,7 @@ import tml_corpus
 from corpus import COMPANION, SOURCES, TML, TOP
 from installing import CAN_INSTALL, CANNOT, install, of_the_clone
 from processes import PATIENCE, WITH_PACKAGES, with_own_bytecode
+from releasing.wheels import entry_points, metadata
 
 SAMPLE = os.path.join(TOP, "samples", "rates.xml")
 
@@ -79,6 +81,19 @@ class Installed(unittest.TestCase):
         script = f"import {', '.join(modules)}\nprint(tml.__file__)\nprint(tml_corpus.__file__)"
         files = [str(self.target / package / "__init__.py") for package in ("tml", "tml_corpus")]
         self.assertEqual(self.run_script(script), (0, "".join(f"{name}\n" for name in files), ""))
+
+    def test_what_pip_knows_of_them_is_as_in_a_release(self) -> None:
+        [info] = self.target.glob(f"tml_corpus-{tml.__version__}.dist-info")
+        by_pip = email.message_from_bytes((info / "METADATA").read_bytes())
+        released = email.message_from_string(metadata(tml.__version__))
+        kept = {name for name in released.keys() if name not in ("License", "Metadata-Version")}
+        said = [
+            {(name, re.sub(" ?; ?", ";", value).replace("'", '"')) for name, value in one.items() if name in kept}
+            for one in (by_pip, released)
+        ]
+        self.assertEqual(*said)
+        self.assertEqual(by_pip.get_payload(), released.get_payload())
+        self.assertEqual((info / "entry_points.txt").read_text(encoding="utf-8").strip(), entry_points().strip())
 
     def test_each_command_has_its_help(self) -> None:
         with open(os.path.join(TOP, "pyproject.toml"), "rb") as file:

@@ -13,16 +13,19 @@ from collections.abc import Mapping, Sequence
 from pathlib import Path
 from unittest import mock
 
+from building.linking import linked
 from corpus import TESTS, TML, TOOLS, TOP, match_in, text_at
 from differential.cases import Case
-from processes import BARE
 from refused_memory import runs
+from releasing.debian import dev_package, library_package, write_tree
+from releasing.outputs import Outputs
+from releasing.source import Source, versions_of
 
 ARCHIVE = os.path.abspath(os.environ.get("TML_ARCHIVE") or os.path.join(TOP, "crates", "tml_c", "out", "libtml_c.a"))
 CALLER, REFUSING, WRONG = (os.path.join(TESTS, name) for name in ("library_caller.c", "refusing_caller.c", "wrong_library.c"))
 EXPORTS = {"tml_answer", "tml_most_of_document", "tml_most_of_evidence"}
 LIBRARIES = "usr/lib/x86_64-linux-gnu"
-MISSING = [name for name in ("cc", "ld", "objcopy", "ar", "rt", "dpkg-deb") if shutil.which(name) is None]
+MISSING = [name for name in ("cc", "ld", "objcopy", "ar", "rt") if shutil.which(name) is None]
 STRIDE = 40
 STRICT = ("-std=c11", "-D_DEFAULT_SOURCE", "-Wall", "-Wextra", "-Werror", "-O1", "-g")
 SANITIZED = ("-fsanitize=address,undefined", "-fno-sanitize-recover=all")
@@ -99,7 +102,6 @@ class Preloaded(unittest.TestCase):
 class Library(unittest.TestCase):
     folder: Path
     root: Path
-    made: list[str]
     caller: Path
 
     @classmethod
@@ -107,23 +109,12 @@ class Library(unittest.TestCase):
         held = tempfile.TemporaryDirectory(prefix="library-")
         cls.addClassCleanup(held.cleanup)
         cls.folder = Path(held.name)
-        cls.made = cls.packages()
         cls.root = cls.folder / "root"
-        for name in cls.made:
-            ran("dpkg-deb", "-x", name, cls.root)
+        cls.root.mkdir()
+        source = Source(versions_of(text_at("CHANGELOG.md")), "", True, 0, "A Name <a@example.org>", "")
+        libraries = Outputs(b"", b"", *linked(ARCHIVE))
+        write_tree(cls.root, library_package(source, libraries, b"", "libc6") | dev_package(source, libraries, b""))
         cls.caller = cls.built("caller", CALLER, "-l:libtml.a")
-
-    @classmethod
-    def packages(cls) -> list[str]:
-        """Makes the packages by `tools/package` of a copy that has a date for each version."""
-        copy = cls.folder / "copy"
-        for folder in ("tools", "python"):
-            shutil.copytree(os.path.join(TOP, folder), copy / folder, ignore=shutil.ignore_patterns("__pycache__"))
-        shutil.copytree(os.path.join(TOP, "docs"), copy / "docs")
-        changes = text_at("CHANGELOG.md")
-        (copy / "CHANGELOG.md").write_text(changes.replace(", not yet released", ", 2026-11-29"), encoding="utf-8")
-        words = ("--library", ARCHIVE, "--output", cls.folder, "--maintainer", "A Name <a@example.org>")
-        return ran(*BARE, copy / "tools/package", *words, env={**os.environ, "SOURCE_DATE_EPOCH": "1795824000"}).splitlines()
 
     @classmethod
     def built(cls, name: str, source: str | Path, *options: str) -> Path:
@@ -247,23 +238,9 @@ class Library(unittest.TestCase):
         self.assertIn("TML_0.4", ran("nm", "-D", self.root / LIBRARIES / "libtml.so"))
         self.assertIn("libtml.so.0", ran("readelf", "-d", self.root / LIBRARIES / "libtml.so"))
 
-    def test_names_and_fields(self) -> None:
-        version = match_in(r"^## ([\d.]+), ", text_at("CHANGELOG.md"), re.MULTILINE)[1]
-        self.assertEqual(
-            [os.path.basename(name) for name in self.made], [f"{name}_{version}_amd64.deb" for name in ("libtml", "libtml-dev")]
-        )
-        found = {str(path.relative_to(self.root)) for path in self.root.rglob("*") if path.is_file()}
-        wanted = {f"{LIBRARIES}/{name}" for name in (f"libtml.so.{version}", "libtml.so.0", "libtml.so", "libtml.a", "pkgconfig/libtml.pc")}
-        wanted |= {"usr/include/tml.h", "usr/share/doc/libtml-dev/LIBRARY.md"}
-        wanted |= {f"usr/share/doc/{package}/{name}" for package in ("libtml", "libtml-dev") for name in ("copyright", "changelog.gz")}
-        self.assertEqual(found, wanted)
-        self.assertRegex(ran("dpkg-deb", "-f", self.made[0], "Depends"), r"^libc6 \(>= 2\.\d+\)$")
-        self.assertEqual(ran("dpkg-deb", "-f", self.made[1], "Depends"), f"libtml (= {version})\n")
-
     def test_the_same_again(self) -> None:
-        before = [Path(name).read_bytes() for name in self.made]
-        shutil.rmtree(self.folder / "copy")
-        self.assertEqual([Path(name).read_bytes() for name in self.packages()], before)
+        contents = [(self.root / LIBRARIES / name).read_bytes() for name in ("libtml.so", "libtml.a")]
+        self.assertEqual(list(linked(ARCHIVE)), contents)
 
 
 if __name__ == "__main__":

@@ -1,1 +1,1 @@
-"""Making what is handed out: the library for C, the module for browsers, packages for Debian, and measures of the merge gate."""
+"""Making the library for C and the module for browsers, and measures of the merge gate."""

@@ -9,6 +9,7 @@ import os
 import shutil
 import subprocess
 import tempfile
+from collections.abc import Sequence
 from pathlib import Path
 
 EXPORTS = ("tml_answer", "tml_most_of_document", "tml_most_of_evidence")
@@ -23,9 +24,9 @@ class CannotMake(Exception):
     """Something cannot be made."""
 
 
-def need_programs() -> None:
-    """Sees that all programs by which the library is made are there."""
-    missing = [name for name in PROGRAMS if shutil.which(name) is None]
+def need_programs(names: Sequence[str] = PROGRAMS) -> None:
+    """Sees that some programs are there: by default those by which the library is made."""
+    missing = [name for name in names if shutil.which(name) is None]
     if missing:
         raise CannotMake(f"not installed: {', '.join(missing)}")
 

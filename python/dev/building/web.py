@@ -14,7 +14,6 @@ from __future__ import annotations
 
 import argparse
 import re
-import shutil
 import sys
 import tempfile
 from collections.abc import Iterable, Iterator, Sequence
@@ -22,7 +21,7 @@ from pathlib import Path
 
 from building.compiling import TOP, module_of
 from building.library import written
-from building.linking import CannotMake, folder_of_kit, run
+from building.linking import CannotMake, folder_of_kit, need_programs, run
 from building.page import NAME, page_of
 from tml_corpus import VERSION
 
@@ -55,7 +54,7 @@ def main(words: list[str]) -> int:
     parser.add_argument("folder", type=Path, metavar="DIR", help="the folder for the files, which is made if it is not there")
     folder = parser.parse_args(words).folder
     try:
-        need_programs()
+        need_programs(PROGRAMS)
         kit = folder_of_kit()
         module = made(kit, module_of(kit))
         contents = {"tml.wasm": module, **{name: (SOURCES / name).read_bytes() for name in HANDED_OUT}, NAME: page_of(module)}
@@ -66,13 +65,6 @@ def main(words: list[str]) -> int:
         print(f"build: {problem}", file=sys.stderr)
         return 1
     return 0
-
-
-def need_programs() -> None:
-    """Sees that all programs by which the module is made are there."""
-    missing = [name for name in PROGRAMS if shutil.which(name) is None]
-    if missing:
-        raise CannotMake(f"not installed: {', '.join(missing)}")
 
 
 def made(kit: str, module: Path) -> bytes:

@@ -35,7 +35,7 @@ if TYPE_CHECKING:
     from .writing import *
 
 __version__ = "0.4.0"
-"""The version of this package and of the companions: that of pyproject.toml and of the newest heading of CHANGELOG.md, as a test sees."""
+"""The version of everything. pyproject.toml and tools/release read it here, and a test holds the newest heading of CHANGELOG.md to it."""
 
 MODULES = (
     "asking", "confidence", "documents", "expecting", "folders", "library", "lines", "matrices", "misuse", "process", "questions",

@@ -60,25 +60,19 @@ def answerer_in_words() -> str:
 
 def asked(command: str, *words: str) -> int:
     """The status of one question, whose answer is printed."""
-    count = 0 if command == "drill" else len(LIMITS.get(command, (DOCUMENT_LIMIT,)))
-    if command not in COMMANDS or len(words) < count:
+    limits = () if command == "drill" else LIMITS.get(command, (DOCUMENT_LIMIT,))
+    if command not in COMMANDS or len(words) < len(limits):
         print(f"{USAGE}python -m tml --help has the commands", file=sys.stderr)
         return TmlStatus.USAGE
     try:
-        limits = LIMITS.get(command, (DOCUMENT_LIMIT,))
-        files = [file_of(word, limit) for word, limit in zip(words[:count], limits, strict=False)]
+        files = [sys.stdin.buffer.read(most + 1) if word == "-" else content(word, most) for word, most in zip(words, limits, strict=False)]
     except OSError as error:
         print(f"tml: {error}", file=sys.stderr)
         return TmlStatus.READ_FAULT
-    status, text = default_answerer().answer(command, files, words[count:])
+    status, text = default_answerer().answer(command, files, words[len(limits) :])
     sys.stdout.buffer.write(text)
     sys.stdout.flush()
     return status
-
-
-def file_of(word: str, limit: int) -> bytes:
-    """The bytes of a file, or of standard input; of a longer one a byte more than it may have."""
-    return sys.stdin.buffer.read(limit + 1) if word == "-" else content(word, limit)
 
 
 if __name__ == "__main__":

@@ -1,4 +1,4 @@
-"""Who answers: the program and the library that are named, those that were built in this repository, or those of the system."""
+"""Who answers: the program and the library that are named, those next to the modules, those built here, or those of the system."""
 
 from __future__ import annotations
 
@@ -11,8 +11,11 @@ from .running import CannotRun
 if TYPE_CHECKING:
     from .library import Library
 
-TOP = os.path.normpath(os.path.join(os.path.dirname(os.path.realpath(__file__)), "../../.."))
-BUILT_PROGRAM, BUILT_LIBRARY = os.path.join(TOP, "crates/tml/out/tml"), os.path.join(TOP, "crates/tml_c/out/libtml.so")
+HERE = os.path.dirname(os.path.realpath(__file__))
+IS_PACKED = os.path.isfile(os.path.join(HERE, "tml"))
+BUILT = ("tml", "libtml.so") if IS_PACKED else ("../../../crates/tml/out/tml", "../../../crates/tml_c/out/libtml.so")
+BUILT_PROGRAM, BUILT_LIBRARY = (os.path.normpath(os.path.join(HERE, name)) for name in BUILT)
+"""What a wheel has put next to these modules, or else what is built in this repository."""
 
 SYSTEM_LIBRARY = "libtml.so.0"
 """The name by which the loader of the system finds the library, where it is installed."""
@@ -69,7 +72,8 @@ class Answering(NamedTuple):
 
 
 def find(program: str | None = None, library: str | None = None, named_by: str = "--tml", *, is_here: bool = True) -> Answering:
-    """Who answers, in the order that docs/PYTHON.md gives. What the arguments name goes before what the variables name.
+    """Who answers: the first of what the arguments name, what the variables `TML_LIBRARY` and `TML` name, what a wheel has put next to
+    these modules, what is built in this repository, the library of the system, and `tml` on the PATH. docs/PYTHON.md has the details.
 
     A program that was named has to run, unless it is to run elsewhere. An empty library is none.
     """
@@ -99,8 +103,8 @@ def on_path(name: str) -> str | None:
 
 
 def library_beside() -> AtPath | None:
-    """The library if nothing was named: the one built here, if the program built here is no newer; if neither was built, the system's."""
+    """The library if nothing was named: that of a wheel, or one built here if the program is no newer; else the system's."""
     is_built = os.access(BUILT_PROGRAM, os.X_OK)
-    if os.path.isfile(BUILT_LIBRARY) and not (is_built and os.path.getmtime(BUILT_LIBRARY) < os.path.getmtime(BUILT_PROGRAM)):
+    if os.path.isfile(BUILT_LIBRARY) and (IS_PACKED or not is_built or os.path.getmtime(BUILT_LIBRARY) >= os.path.getmtime(BUILT_PROGRAM)):
         return AtPath(BUILT_LIBRARY)
     return None if is_built else AtPath(SYSTEM_LIBRARY)

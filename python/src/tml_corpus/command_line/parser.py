@@ -270,7 +270,7 @@ def shared_words(words: Parser) -> None:
     settings = "the settings (default: tml-corpus.toml in the folder of the paths or nearest above)"
     words.add_argument("--config", metavar="FILE", help=settings)
     words.add_argument(
-        "--tml", metavar="PROGRAM", help="the program tml (default: that of the variable TML, else of this repository, else on PATH)"
+        "--tml", metavar="PROGRAM", help="the program tml (default: that of the variable TML, else one that came with this, else on PATH)"
     )
 
 
