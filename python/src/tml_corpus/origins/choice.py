@@ -246,16 +246,17 @@ class Choice:
 
     def is_chance(self, origin: Origin, exchanged: set[int]) -> bool:
         """Whether an origin needs a chance if two characters may have been exchanged at the edge of a tag or value, by the places of the
-        first of them: a finger struck a far key for nothing, or the character that was lost is also the next one. Or if the last letter of
-        an end tag may have been struck twice: then it would be alone in the text."""
+        first of them: a finger struck a far key for nothing, or the character that was lost is also the next one, and then alone in the
+        text. Or if the last letter of an end tag may have been struck twice: then it would be alone in the text."""
         key, text = origin.keystroke, self.draft.text
         if key.slip is Slip.EXCHANGED and origin.stretch.startswith("</") and key.text[0] == ">":
             return key.text[1].isalpha() and text[key.start - 1] == key.text[1] and not text[key.end : key.end + 1].isalnum()
         if key.slip is Slip.STRUCK and {key.start, key.start - 1} & exchanged:
             return text[key.start].isalnum() and self.is_far(key.start) and self.is_of_word(key.start, exchanged)
         if key.slip is Slip.LOST and key.text.isalnum():
-            return (key.start in exchanged and text[key.start + 1] == key.text) or (
-                key.start - 2 in exchanged and text[key.start - 2] == key.text
+            after, before = text[key.start + 1 : key.start + 3], text[max(key.start - 3, 0) : key.start - 1]
+            return (key.start in exchanged and after[:1] == key.text and not after[1:].isalnum()) or (
+                key.start - 2 in exchanged and before[-1:] == key.text and not before[:-1].isalnum()
             )
         return False
 
