@@ -5,6 +5,7 @@ from __future__ import annotations
 import os
 import re
 import shutil
+import signal
 import struct
 import subprocess
 import tempfile
@@ -159,16 +160,21 @@ class Library(unittest.TestCase):
         words = ran("pkg-config", "--cflags", "--libs", "libtml", env={**os.environ, **places, **kept})
         ran("cc", CALLER, "-o", self.folder / "by-pkg-config", *words.split(), "-pthread")
 
+    def program(self, case: Case, before: Sequence[str] = ()) -> tuple[int, bytes]:
+        """The status and the text of the program on a case."""
+        with tempfile.TemporaryDirectory() as folder:
+            files = {name: content for name, content in case.files.items() if name != b"-"}
+            for name, content in files.items():
+                Path(folder, name.decode()).write_bytes(content)
+            piped = case.files.get(b"-", b"")
+            done = subprocess.run([*before, TML, *case.words], cwd=folder, input=piped, capture_output=True, check=False, timeout=300)
+            return done.returncode, done.stdout
+
     @unittest.skipUnless(os.access(TML, os.X_OK), f"no program {TML}")
     def test_it_answers_as_the_program(self) -> None:
         for case in self.cases():
-            with self.subTest(case.subject), tempfile.TemporaryDirectory() as folder:
-                files = {name: content for name, content in case.files.items() if name != b"-"}
-                for name, content in files.items():
-                    Path(folder, name.decode()).write_bytes(content)
-                piped = case.files.get(b"-", b"")
-                done = subprocess.run([TML, *case.words], cwd=folder, input=piped, capture_output=True, check=False, timeout=300)
-                self.assertEqual(self.call(case)[:2], (done.returncode, done.stdout))
+            with self.subTest(case.subject):
+                self.assertEqual(self.call(case)[:2], self.program(case))
 
     def test_threads_side_by_side(self) -> None:
         for case in self.cases(5):
@@ -195,17 +201,32 @@ class Library(unittest.TestCase):
             with self.subTest(case.subject):
                 self.assertEqual(self.call(case, before=VALGRIND)[:2], self.call(case)[:2])
 
+    def stacks_stated(self) -> tuple[int, int]:
+        """How many KiB of stack are enough for `verify` and `drill`, and how many for the other commands, as both pages say."""
+        page, manual = (" ".join(text_at(f"docs/{name}").split()) for name in ("LIBRARY.md", "tml.1"))
+        stated = match_in(r"a stack of (\d+) KiB was enough for `verify` and `drill`, and one of (\d+) KiB for all other commands", page)
+        of_manual = match_in(r"tried, (\d+) KiB were enough for \.Cm verify and \.Cm drill , and (\d+) KiB for all else\.", manual)
+        self.assertEqual(stated.groups(), of_manual.groups())
+        return int(stated[1]), int(stated[2])
+
     @unittest.skipUnless(shutil.which("prlimit"), "no prlimit")
+    @unittest.skipUnless(os.access(TML, os.X_OK), f"no program {TML}")
     def test_the_stack_that_is_stated(self) -> None:
-        page = " ".join(text_at("docs/LIBRARY.md").split())
-        most, others = map(
-            int, match_in(r"`verify` and `drill` took about (\d+) KiB of it, and all other commands about (\d+) KiB", page).groups()
-        )
+        most, others = self.stacks_stated()
+        ended: set[tuple[int, bool]] = set()
         for case in self.cases(2):
             stated = most if case.words[:1] in ((b"verify",), (b"drill",)) else others
+            enough, half = (("prlimit", f"--stack={size * 1024}") for size in (stated, stated // 2))
             with self.subTest(case.subject, words=case.words[:1]):
-                # beside it, the program that calls has its words, its variables and the loader on the stack
-                self.assertEqual(self.call(case, before=("prlimit", f"--stack={(stated + 96) * 1024}")), self.call(case))
+                self.assertEqual(self.call(case, before=enough), self.call(case))
+                self.assertEqual(self.program(case, before=enough), self.program(case))
+                if self.call(case, before=half)[0] == -signal.SIGSEGV:
+                    ended.add((stated, True))
+                if self.program(case, before=half)[0] == -signal.SIGSEGV:
+                    ended.add((stated, False))
+        self.assertEqual(
+            ended, {(stated, of_library) for stated in (most, others) for of_library in (True, False)}, "far too much is stated"
+        )
 
     def refused(self, program: Path, cases: Sequence[Case], before: Sequence[str] = ()) -> int:
         """Refuses each allocation of some cases, and answers how many there were."""

@@ -1,4 +1,4 @@
-"""The program `tml-verify`: that no crate of the solver stands below it, and that it answers what `tml verify` and `tml confirm` answer."""
+"""The program `tml-verify`: which crates stand below it, and that it answers what `tml verify` and `tml confirm` answer."""
 
 import os
 import subprocess
@@ -8,17 +8,20 @@ from collections.abc import Iterator
 from pathlib import Path
 
 from building.crates import libraries_below, listed
-from corpus import TML, TOP, needs_seconds
+from corpus import TML, TOP, needs_seconds, text_at
 from tml.statuses import DOCUMENT_LIMIT, EVIDENCE_LIMIT, TmlStatus
 
 TML_VERIFY = os.path.abspath(os.environ.get("TML_VERIFY") or os.path.join(TOP, "crates", "tml_verify", "out", "tml_verify"))
 SAMPLES = Path(TOP, "samples")
 
-SOLVER = (
-    "order_closure timeline walks clash derive_rel tml_possible tml_score seconds_search point_index drill"
-    " net_answers order_answers possible_answers score_answers seconds_answers tml_seconds tml_tool"
+MAY_BE_BELOW = (
+    "answers evidence_answers evidence_check evidence_format faults line_texts lists named net_build net_core runs seconds_build"
+    " seconds_check seconds_core seconds_format timex_dates timex_value tml_accept tml_io tml_refs tml_span tml_tree tml_types"
 ).split()
-"""The crates that search for what is checked, and those that stand on them for their answers."""
+"""The crates that the checker may use. None searches for a timeline, a walk, a clash or a placing, not even in proofs."""
+
+OF_THE_KIT = "itoa jiff jiff_core memchr simdutf8".split()
+"""The crates of the kit that these use, which docs/CHECKER.md names among what is believed."""
 
 FIRST_LINE = b"tml-seconds 1\n"
 USAGE = b"usage:\ntml-verify DOC EVIDENCE\ntml-verify DOC SECONDS\n"
@@ -40,15 +43,27 @@ FAULTY = {
 class Below(unittest.TestCase):
     """What the program stands on, by crates.txt."""
 
-    def test_no_crate_of_the_solver_is_below(self) -> None:
-        uses = dict(listed())
-        self.assertLessEqual({"tml_verify", *SOLVER}, set(uses), "a crate has another name")
-        self.assertEqual([crate for crate in libraries_below("tml_verify", uses) if crate in SOLVER], [])
+    def below(self, uses: dict[str, list[str]]) -> tuple[list[str], list[str]]:
+        """The crates of this repository below the program, and those of the kit that it and they use."""
+        ours = libraries_below("tml_verify", uses)
+        return sorted(ours), sorted({used for crate in ("tml_verify", *ours) for used in uses[crate]} - set(uses))
 
-    def test_one_that_is_would_be_found(self) -> None:
+    def test_no_crate_is_below_but_those_that_are_named(self) -> None:
+        self.assertEqual(self.below(dict(listed())), (MAY_BE_BELOW, OF_THE_KIT), "see that a new one searches for nothing, and name it")
+
+    def test_one_that_is_not_named_is_found(self) -> None:
+        for crate, new in (("evidence_check", "clash"), ("tml_span", "a_new_one"), ("tml_verify", "anyhow")):
+            uses = {**dict(listed()), "a_new_one": []}
+            uses[crate] = [*uses[crate], new]
+            self.assertNotEqual(self.below(uses), (MAY_BE_BELOW, OF_THE_KIT))
+
+    def test_the_page_for_those_who_trust_the_checker_names_them(self) -> None:
+        page = " ".join(text_at("docs/CHECKER.md").split())
         uses = dict(listed())
-        uses["evidence_check"] = [*uses["evidence_check"], "clash"]
-        self.assertIn("order_closure", libraries_below("tml_verify", uses))
+        counts = f"`tml-verify` uses {len(MAY_BE_BELOW)} crates of this repository, and `tml` {len(libraries_below('tml', uses))}."
+        *others, last = (f"`{name}`" for name in OF_THE_KIT)
+        self.assertIn(counts, page)
+        self.assertIn(f"names those that the program uses, {', '.join(others)} and {last}", page)
 
 
 def damaged(text: bytes) -> Iterator[bytes]:

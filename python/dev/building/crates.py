@@ -8,9 +8,9 @@ from pathlib import Path
 TOP = Path(__file__).resolve().parents[3]
 
 
-def listed() -> Iterator[tuple[str, list[str]]]:
-    """The crates of crates.txt, each with the libraries that it uses."""
-    for line in (TOP / "crates.txt").read_text(encoding="utf-8").splitlines():
+def listed(top: Path = TOP) -> Iterator[tuple[str, list[str]]]:
+    """The crates of the crates.txt of a clone, each with the libraries that it uses."""
+    for line in (top / "crates.txt").read_text(encoding="utf-8").splitlines():
         name, colon, uses = line.partition(":")
         if colon and not line.startswith("#"):
             yield name.split()[0], uses.split()

@@ -48,11 +48,15 @@ class Source:
 def source_of(maintainer: str | None = None) -> Source:
     """The state of this clone. The author of the last commit maintains the packages if nobody is named."""
     commit, time, author = run(["git", "-C", str(TOP), "log", "-1", "--format=%H%n%ct%n%an <%ae>"]).splitlines()
-    changed = run(["git", "-C", str(TOP), "status", "--porcelain"])
     versions = versions_of(text_of("CHANGELOG.md"))
     if versions[0].name != VERSION:
         raise CannotMake(f"the newest version of CHANGELOG.md is {versions[0].name}, and that of the package tml is {VERSION}")
-    return Source(versions, commit, not changed, int(time), maintainer or author, run(["rt", "version"]).strip())
+    return Source(versions, commit, is_clean(), int(time), maintainer or author, run(["rt", "version"]).strip())
+
+
+def is_clean(top: Path = TOP) -> bool:
+    """Whether the files of a clone are as they were committed, and no other ones lie between them but what git ignores."""
+    return not run(["git", "-C", str(top), "status", "--porcelain", "--untracked-files=all"])
 
 
 def versions_of(changes: str) -> tuple[Version, ...]:
