@@ -26,7 +26,7 @@ BARE = (ROOT, "DOC", "BODY", "DCT", BETWEEN)
 MEANT_ELSEWHERE = OTHER_RELATIONS.keys() | SAME_RELATIONS.keys() | UNCLEAR_RELATIONS.keys()
 """Relations of other schemes."""
 
-MOST_COMPARED, MOST_READ = 400, 4 << 20
+MOST_COMPARED, MOST_READ = 400, 250_000
 """Of more origins, or of origins that are further apart so that more characters are compared, none is set aside."""
 
 IN_TEXT = ("markup in text", "slash", "bare text")
@@ -37,6 +37,9 @@ to other tags says nothing of a letter or a sign. The last one does so only if o
 EDGE = re.compile("[<>\"']")
 SIGN = re.compile("(?<!(?<!-)[-=])(?<![^\\s\"'/]\\s)>|!--")
 """A `>` in a text that is neither the head of an arrow nor between words, or the beginning of a comment."""
+
+FEW = 2
+"""So few others say nothing of what is usual."""
 
 MOST_SPACES = 64
 """How much white space before a tag is compared at most."""
@@ -116,8 +119,10 @@ class Style:
     """The places that have text: names of tags, or between links."""
     nested: set[str] = field(default_factory=set)
     """The names of tags that are within one of the same name."""
+    blank: int = 0
+    """How many of the places that mostly have no text have none."""
     has_slash: bool = False
-    """Whether there is a slash before an end tag."""
+    """Whether there is a slash before a tag."""
     has_sign: bool = False
     """Whether there is a `>` in the text."""
 
@@ -206,8 +211,10 @@ class Choice:
             path = (self.draft.before if tag.start <= self.low else self.draft.needed)[number]
             calm = [self.is_calm(last, tag.start), self.is_calm(tag.start, tag.end)]
             text = NOT_TEXT.sub("", self.draft.text[last : tag.start]) if path > 0 and all(calm) else ""
-            style.with_text.update({place_of(self.draft.above[path][1], before, tag.name)} if text.strip() else ())
-            style.has_slash |= text.endswith("/") and tag.kind == "end"
+            place = place_of(self.draft.above[path][1], before, tag.name) if path > 0 else ""
+            style.with_text.update({place} if text.strip() else ())
+            style.blank += calm[0] and place in BARE and not text.strip()
+            style.has_slash |= text.endswith("/")
             style.has_sign |= SIGN.search(text) is not None
             if calm[1]:
                 style.by_name[tag.name][tag.kind].learn(tag, self.draft.text)
@@ -381,7 +388,7 @@ class Choice:
             text = NOT_TEXT.sub("", part[at : tag.start])
             inner = self.draft.above[path][1] if path > 0 else ""
             yield from self.of_text(text, place_of(inner, before, tag.name or following))
-            if text.endswith("/") and tag.kind == "end" and not self.style.has_slash:
+            if text.endswith("/") and tag.name and not self.style.has_slash:
                 yield "slash"
             if tag.name and looks_at(tag.start, tag.end):
                 left = kind_of(padded[tag.start]) if looks_at(tag.start - 1, tag.start + 1) else None
@@ -391,7 +398,8 @@ class Choice:
                 yield from ["name"] * sum(name not in known for name, _ in tag.pairs)
                 if any(is_odd(tag.name, name, value) and not is_quoted(value, was) for name, value in tag.pairs):
                     yield "odd value"
-            if tag.kind == "start" and path > 0 and tag.name in self.draft.names(path) and tag.name not in self.style.nested:
+            is_usual = tag.kind != "start" or tag.name in self.style.nested or self.style.by_name[tag.name]["start"].count <= FEW
+            if not is_usual and path > 0 and tag.name in self.draft.names(path):
                 yield "nested"
             if tag.name:
                 path = self.draft.after(path, [tag])
@@ -400,14 +408,14 @@ class Choice:
     def of_text(self, text: str, place: str) -> Iterator[str]:
         """What is unlikely in a text."""
         yield from ["markup in text"] * len(SIGN.findall(text))
-        if text.strip() and place in BARE and place not in self.style.with_text:
+        if text.strip() and place in BARE and place not in self.style.with_text and self.style.blank > FEW:
             yield "bare text"
 
     def of_tag(self, tag: Tag, part: str, left: tuple[bool, bool] | None, right: tuple[bool, bool] | None) -> Iterator[str]:
         """What is unlikely about a tag between two characters, by those that are like it."""
         named = self.style.by_name[tag.name]
         alike = named[tag.kind]
-        has_some = alike.count > 2
+        has_some = alike.count > FEW
         yield from ["glued"] * (has_some and left is not None and left not in alike.lefts)
         yield from ["glued"] * (has_some and right is not None and right not in alike.rights)
         if tag.kind == "empty" and tag.name in (ROOT, *WRAPPERS, "EVENT", "SIGNAL", "TIMEX3") and not alike.count:
@@ -415,7 +423,7 @@ class Choice:
         of_kind = self.style.by_kind[tag.kind, purpose(tag.name)]
         if SPACED_END.search(part, tag.start, tag.end) and of_kind.count and not of_kind.is_spaced:
             yield "shape"
-        if tag.name not in TABLE and not any(one.count for one in named.values()):
+        if tag.name not in TABLE and not any(one.count for one in named.values()) and self.style.by_kind["start", "wrapper"].count > FEW:
             yield "tag"
         if self.style.has_other_shape(tag):
             yield "identifier"

@@ -247,9 +247,9 @@ class Draft:
         return all(self.attributes[tag.name, name] > inside[name] for name in names)
 
     def calm_names(self, stretch: tuple[int, int], key: tuple[int, int]) -> set[str]:
-        """The names of attributes in a stretch that a keystroke neither changes nor touches."""
+        """The names of attributes in a stretch that a keystroke neither changes nor touches, nor the sign after them."""
         if stretch not in self.named:
-            self.named[stretch] = [(one.start(), one.end(1), one[1]) for one in NAMED.finditer(self.text, *stretch)]
+            self.named[stretch] = [(one.start(), one.end(), one[1]) for one in NAMED.finditer(self.text, *stretch)]
         return {name for begin, until, name in self.named[stretch] if key[1] < begin or until < key[0]}
 
 

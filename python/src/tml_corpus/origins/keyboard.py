@@ -3,18 +3,28 @@
 from __future__ import annotations
 
 from collections import defaultdict
-from collections.abc import Iterator
+from collections.abc import Iterable, Iterator
 from enum import Enum
 from typing import NamedTuple
 
-ROWS = (
-    ("`1234567890-=", "~!@#$%^&*()_+"), ("qwertyuiop[]\\", "QWERTYUIOP{}|"), ("asdfghjkl;'", 'ASDFGHJKL:"'), ("zxcvbnm,./", "ZXCVBNM<>?"),
+AMERICAN = (
+    ("`1234567890-=", "~!@#$%^&*()_+"), (" qwertyuiop[]\\", " QWERTYUIOP{}|"), (" asdfghjkl;'", ' ASDFGHJKL:"'), (" zxcvbnm,./", " ZXCVBNM<>?"),
 )  # fmt: skip
-"""The rows of keys, without and with shift. A key lies between two keys of the row above it, of which its own place is the first one;
-but the row of digits begins one key further to the left."""
+"""The rows of keys, without and with shift. A key lies between two keys of the row above it, of which its own place is the first one. A
+space is no key."""
 
-BY_SPACE = "xcvbnm,.XCVBNM<>"
-"""What is written by the keys next to the space bar."""
+GERMAN = (
+    ("^1234567890\xdf\xb4", '\xb0!"\xa7$%&/()=?`'), (" qwertzuiop\xfc+", " QWERTZUIOP\xdc*"), (" asdfghjkl\xf6\xe4#", " ASDFGHJKL\xd6\xc4'"), ("<yxcvbnm,.-", ">YXCVBNM;:_"),
+)  # fmt: skip
+FRENCH = (
+    ("\xb2&\xe9\"'(-\xe8_\xe7\xe0)=", " 1234567890\xb0+"), (" azertyuiop^$", " AZERTYUIOP\xa8\xa3"), (" qsdfghjklm\xf9*", " QSDFGHJKLM%\xb5"), ("<wxcvbn,;:!", ">WXCVBN?./\xa7"),
+)  # fmt: skip
+
+BY_SPACE, BY_RETURN = "xcvbnm,.XCVBNM<>-_;:!", "'\"\\|]}#~+*$\xa3\xb5"
+"""What is written by the keys next to the space bar, and next to the key of the line feed."""
+
+MARKUP = "<>/='\""
+"""Signs that are next to other keys on keyboards of other countries. Only of these signs those keys are considered."""
 
 TYPED = "".join(sorted({*map(chr, range(32, 127)), "\n"} - set("$%()*@[\\]^`{|}~")))
 """What a key can write, but for signs without which no tag, value or reference lacks anything."""
@@ -48,31 +58,31 @@ class Keystrokes(NamedTuple):
     """As a string: each of its characters."""
 
 
+def neighbours(rows: Iterable[tuple[str, str]]) -> Iterator[tuple[str, str]]:
+    """What may be typed for what: of keys that are next to each other, or of one key."""
+    keys = {(row, place): pair for row, those in enumerate(rows) for place, pair in enumerate(zip(*those, strict=True)) if " " not in pair}
+    for (row, place), (plain, shifted) in keys.items():
+        yield from ((plain, shifted), (shifted, plain))
+        for near in filter(None, map(keys.get, ((row, place - 1), (row - 1, place), (row - 1, place + 1)))):
+            yield from ((plain, near[0]), (near[0], plain), (shifted, near[1]), (near[1], shifted))
+            # A key next to the right one may be struck before shift is.
+            yield from ((plain, near[1]), (near[0], shifted))
+
+
 def meant_by_keys() -> dict[str, str]:
     """For each character those that may have been meant: of the keys next to its own, or of its own with another shift."""
     found: defaultdict[str, set[str]] = defaultdict(set)
-
-    def join(one: str, other: str) -> None:
+    for typed, meant in neighbours(AMERICAN):
+        found[typed].add(meant)
+    for rows in (GERMAN, FRENCH):
+        for typed, meant in neighbours(rows):
+            found[typed].update({meant} if typed in MARKUP or meant in MARKUP else ())
+    for one, other in [*((one, " ") for one in BY_SPACE), *((one, "\n") for one in BY_RETURN)]:
         found[one].add(other)
         found[other].add(one)
-
-    keys = {(row, place): pair for row, those in enumerate(ROWS) for place, pair in enumerate(zip(*those, strict=True))}
-    for (row, place), pair in keys.items():
-        join(*pair)
-        left, above = keys.get((row, place - 1)), place + (row == 1)
-        for near in filter(None, (left, keys.get((row - 1, above)), keys.get((row - 1, above + 1)))):
-            join(pair[0], near[0])
-            join(pair[1], near[1])
-            # A key next to the right one may be struck before shift is.
-            found[pair[0]].add(near[1])
-            found[near[0]].add(pair[1])
-    for one in BY_SPACE:
-        join(one, " ")
-    # One slash is written for the other, and the key of the line feed is next to the quotes and to the backslash.
+    # One slash is written for the other.
     found["\\"].add("/")
-    for one in "'\"\\|":
-        join(one, "\n")
-    return {typed: "".join(sorted(meant)) for typed, meant in found.items()}
+    return {typed: "".join(sorted(meant - {typed})) for typed, meant in found.items()}
 
 
 MEANT = meant_by_keys()

@@ -30,7 +30,7 @@ MOST_READ, MOST_CHECKED, MOST_BYTES = 60_000_000, 300, 16 << 20
 """How much is read of what is around keystrokes, which takes about a second, how many texts `tml` checks, and of how many characters
 together. If that does not do, nothing is decided."""
 
-EACH, EACH_ORIGIN, EACH_READ = 256, 1000, 8
+EACH, EACH_ORIGIN, EACH_READ = 256, 2000, 8
 """What it takes of this to try the keystrokes of one kind at one place, to look at what one leaves, and to read a character of a tag."""
 
 TURNS = re.compile("[/!?>-]")
@@ -216,6 +216,8 @@ class Search:
         if text.startswith("<!--", place) and keys.start > place:
             start = place
             left, right, old = text[keys.start - 2 : keys.start], text[keys.end : keys.end + 2], text[keys.start - 1 : keys.end]
+            if "-" not in left + old + right:
+                return
             keys = keys._replace(texts=tuple(meant for meant in keys.texts if "--" in left + meant + right + old))
         if self.fault.number not in ELSEWHERE and not start <= place < end:
             return
