@@ -20,6 +20,7 @@ from tml.places import Places, caret_lines
 from tml.replies import refusal
 from tml.tags import profile
 from tml.tags.units import Units, end_of, read_units, unit_at
+from tml_corpus import VERSION
 from tml_corpus.asking.program import CannotRun, Reply
 from tml_corpus.command_line import statuses
 from tml_corpus.convert.tables import BadTable, rows
@@ -394,7 +395,7 @@ class Project(unittest.TestCase):
 
     def test_version_and_programs(self) -> None:
         project = self.project()["project"]
-        self.assertEqual(project["version"], match_in(r"^## (\S+), ", text_at("CHANGELOG.md"), re.MULTILINE)[1])
+        self.assertEqual(VERSION, match_in(r"^## (\S+), ", text_at("CHANGELOG.md"), re.MULTILINE)[1])
         for name, place in project["scripts"].items():
             module, function = place.split(":")
             script = os.path.join(TOOLS, name if name in ("tml-corpus", "tml-edit") else name.removeprefix("tml-"))
@@ -402,7 +403,7 @@ class Project(unittest.TestCase):
                 self.assertRegex(file.read(), rf"\n    from {re.escape(module)} import {function}\n")
                 self.assertEqual(function, os.path.basename(script).replace("-", "_"))
                 said = subprocess.run([*BARE, script, "--version"], capture_output=True, text=True, check=True).stdout
-                self.assertEqual(said, f"{os.path.basename(script)} {project['version']}\n")
+                self.assertEqual(said, f"{os.path.basename(script)} {VERSION}\n")
 
     def test_nothing_is_locked_where_it_is_imported(self) -> None:
         paths = (path.relative_to(SOURCES).with_suffix("").as_posix() for path in sorted(Path(SOURCES, "tml_corpus").rglob("*.py")))

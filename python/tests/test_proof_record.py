@@ -222,6 +222,13 @@ class Refusals(RecordTest):
         (self.tree / "crates/tml/out/tml").unlink()
         self.assert_refused("not there: crates/tml/out/tml\n")
 
+    def test_crates_without_files(self) -> None:
+        for text, missing in (("base:\ntop:\nbasement:\n", "basement"), ("# none\n", "any crate")):
+            with self.subTest(missing):
+                write(self.tree, {"crates.txt": text.encode()})
+                ran("git", "-C", self.tree, "commit", "-q", "-a", "-m", "Others")
+                self.assert_refused(f"no files of: {missing}\n")
+
     def test_promises_of_other_crates(self) -> None:
         write(self.tree, {"docs/promises.txt": b"nothing\n"})
         ran("git", "-C", self.tree, "commit", "-q", "-a", "-m", "Nothing")

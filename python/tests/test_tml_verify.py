@@ -53,7 +53,7 @@ class Below(unittest.TestCase):
 
     def test_one_that_is_not_named_is_found(self) -> None:
         for crate, new in (("evidence_check", "clash"), ("tml_span", "a_new_one"), ("tml_verify", "anyhow")):
-            uses = {**dict(listed()), "a_new_one": []}
+            uses: dict[str, list[str]] = {"a_new_one": [], **dict(listed())}
             uses[crate] = [*uses[crate], new]
             self.assertNotEqual(self.below(uses), (MAY_BE_BELOW, OF_THE_KIT))
 

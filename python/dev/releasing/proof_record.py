@@ -76,12 +76,15 @@ def record(log: Path, tree: Path) -> str:
     """The record of a clone with its binaries, by the log of the gate."""
     need_clean(tree)
     kit = run(["rt", "version"]).strip()
-    files = {crate: named_by_git(tree, f"crates/{crate}") for crate, _ in listed(tree)}
-    edits = sum(Path(name).match("crates/*/must-fail/*.edit") for names in files.values() for name in names)
+    sources = named_by_git(tree, "crates", "web")
+    files = {crate: [name for name in sources if name.startswith(f"crates/{crate}/")] for crate, _ in listed(tree)}
+    if not all(files.values()) or not files:
+        raise CannotMake(f"no files of: {', '.join(one for one, names in files.items() if not names) or 'any crate'}")
+    edits = sum(Path(name).match("crates/*/must-fail/*.edit") for name in sources)
     functions, last = proved(lines_of(log), list(files), edits, kit)
     lines = [f"commit {run(['git', '-C', str(tree), 'rev-parse', 'HEAD']).strip()}", f"kit {kit}"]
     lines += [f"crate {one} proved functions={functions[one]} sources={sum_of_sources(tree, names)}" for one, names in files.items()]
-    lines += [f"gate {last}", *sums_of(tree, named_by_git(tree, "crates", "web")), sum_line(promises(tree), str(LIST))]
+    lines += [f"gate {last}", *sums_of(tree, sources), sum_line(promises(tree), str(LIST))]
     return "".join(f"{line}\n" for line in lines)
 
 
