@@ -104,6 +104,20 @@ ALONE = (
     ('<ENAMEX TYPE="PERSON" ID="3">Lee</ENAMEX>', "<ENAMEX TYPE='PERSON\" ID=\"3\">Lee</ENAMEX>"),
     ('<EVENT eid="e1" class="STATE" stem="go" pos="V">is</EVENT>', '<EVENT eid="e1" class="STATE" stem=\'go" pos="V">is</EVENT>'),
     ('<TIMEX3 tid="t1" type="SET" value="P1D" freq= "">1998</TIMEX3>', '<TIMEX3 tid="t1" type="SET" value="P1D" freq=b"">1998</TIMEX3>'),
+    ("<P>a</P> and <P>b</P>", "<P>a/<P> and <P>b</P>"),
+    ("<P>a</P>.<P>b</P>", "<P>a</P>.P>b</P>"),
+    ("<P>a</P><p>b</p>", "<P>a</p><p>b</p>"),
+    ("<P><P>x</P></P>", "<P><P>x</p></P>"),
+    ("a<s>x</s>said", "a<s>x</>said"),
+    ("<s>a b</s><s>storm</s>", "<s>a b</s><>storm</s>"),
+    ('<TIMEX3 tid="t1" type="TIME">10</TIMEX3>-<TIMEX3 tid="t2" type="TIME">11</TIMEX3>',
+     '<TIMEX3 tid="t1" type="TIME">10</TIMEX3><-TIMEX3 tid="t2" type="TIME">11</TIMEX3>'),
+    ('<EVENT eid="e1" class="STATE" comment="a">is</EVENT>', '<EVENT eid="e1" class="STATE" commen=t"a">is</EVENT>'),
+    ("<P>x</P>", "<P>xy/P>"),
+    ("<P>x</P>", "<P>x<w/P>"),
+    ('<EVENT eid="e1" class="STATE">is</EVENT>', '<EVENT eid="e1" class="STATE"Yis</EVENT>'),
+    ('<EVENT eid="e1" class="STATE">is</EVENT>', '<EVENT eid="e12 class="STATE">is</EVENT>'),
+    ('<EVENT eid="e1" class="STATE">is</EVENT>', '<EVENT eid=2e1" class="STATE">is</EVENT>'),
 )  # fmt: skip
 """What was meant in a document that has nothing else, and what was typed: nothing that is meant may be lost."""
 
@@ -114,7 +128,19 @@ LEFT = ("He & she", "1 < 2", "&amp")
 ATTRIBUTES = " ".join(f'a{number}="v{number}"' for number in range(330))
 WIDE = f'<TimeML>It <EVENT eid="e1" class="STATE" {ATTRIBUTES}>is</EVENT> here.</TimeML>'
 EVENTS = "".join(f'It <EVENT eid="e{number}" class="STATE">was</EVENT> there before it was elsewhere.\n' for number in range(1600))
+PARAGRAPHS = "<TimeML>" + "<P><s>a b c</s></P>\n" * 204 + "</TimeML>\n"
+LONG_NAME = "doc-2024-annotator_B.exxxxxxxxxxxxxxxxxxxx-"
+NAMED = (
+    "<TimeML>"
+    + "".join(
+        f'<EVENT eid="{LONG_NAME}{number}" class="STATE">is</EVENT> <MAKEINSTANCE eiid="i{number}" eventID="{LONG_NAME}{number}"/>\n'
+        for number in range(16)
+    )
+    + "</TimeML>"
+)
 HARD = (
+    (PARAGRAPHS, "</P>", "<P>"),
+    (NAMED, f'eventID="{LONG_NAME}3"', f'eventID="{LONG_NAME}33"'),
     (WIDE, 'a100="v100"', "a100=v100"),
     (WIDE, 'a7="v7"', 'a7"v7"'),
     (WIDE, 'a9="v9"', 'a8="v9"'),

@@ -321,7 +321,7 @@ class Choice:
 
     def blemishes(self, origin: Origin) -> Counter[str]:
         """What is unlikely in the common stretch of an origin."""
-        found = Counter(self.unlikely(self.part(origin), self.low, self.high, self.calm_names, lambda first, last: True))
+        found = Counter(self.unlikely(self.part(origin), self.low, self.high, self.calm_names, lambda first, last: True, FEW))
         if origin.keystroke.slip in (Slip.STRUCK, Slip.EXCHANGED):
             # What was typed before, if in another order, is in the text.
             del found["slash"]
@@ -333,7 +333,9 @@ class Choice:
         start = key.start - origin.start
         end = start + len(key.text)
         names = self.draft.calm_names((origin.start, origin.end), (key.start, key.end - 1))
-        found = Counter(self.unlikely(origin.stretch, origin.start, origin.end, names, lambda first, last: first <= end and last >= start))
+        found = Counter(
+            self.unlikely(origin.stretch, origin.start, origin.end, names, lambda first, last: first <= end and last >= start, -1)
+        )
         tags = list(tags_of(origin.stretch))
         for kind in ("gap", "tag", *self.as_it_was(origin, tags)):
             del found[kind]
@@ -377,9 +379,9 @@ class Choice:
                     is_needed = name == "eventID" and (row.form.target, value) not in self.draft.referred
                     yield shape(was) in shapes and not is_needed
 
-    def unlikely(self, part: str, low: int, high: int, named: set[str], looks_at: Callable[[int, int], bool]) -> Iterator[str]:
+    def unlikely(self, part: str, low: int, high: int, named: set[str], looks_at: Callable[[int, int], bool], few: int) -> Iterator[str]:
         """What is unlikely in a part that is there in place of a stretch: in its text, and about tags and edges of tags in places that
-        are looked at."""
+        are looked at. What is usual is so by more than a few others."""
         (first, last), was = self.draft.within(low, high), self.draft.text[low:high]
         path, at, before = self.draft.before[first], 0, ""
         following = self.draft.tags[last].name if last < len(self.draft.tags) else ""
@@ -387,31 +389,31 @@ class Choice:
         for tag in (*tags_of(part), Tag(len(part), len(part), "", "", ())):
             text = NOT_TEXT.sub("", part[at : tag.start])
             inner = self.draft.above[path][1] if path > 0 else ""
-            yield from self.of_text(text, place_of(inner, before, tag.name or following))
+            yield from self.of_text(text, place_of(inner, before, tag.name or following), few)
             if text.endswith("/") and tag.name and not self.style.has_slash:
                 yield "slash"
             if tag.name and looks_at(tag.start, tag.end):
                 left = kind_of(padded[tag.start]) if looks_at(tag.start - 1, tag.start + 1) else None
                 right = kind_of(padded[tag.end + 1]) if looks_at(tag.end - 1, tag.end + 1) else None
-                yield from self.of_tag(tag, part + padded[-1], left, right)
+                yield from self.of_tag(tag, part + padded[-1], left, right, few)
                 known = {*TABLE.get(tag.name, ()), *self.style.by_name[tag.name][tag.kind].attributes, *named}
                 yield from ["name"] * sum(name not in known for name, _ in tag.pairs)
                 if any(is_odd(tag.name, name, value) and not is_quoted(value, was) for name, value in tag.pairs):
                     yield "odd value"
-            is_usual = tag.kind != "start" or tag.name in self.style.nested or self.style.by_name[tag.name]["start"].count <= FEW
+            is_usual = tag.kind != "start" or tag.name in self.style.nested or self.style.by_name[tag.name]["start"].count <= few
             if not is_usual and path > 0 and tag.name in self.draft.names(path):
                 yield "nested"
             if tag.name:
                 path = self.draft.after(path, [tag])
             at, before = tag.end, tag.name
 
-    def of_text(self, text: str, place: str) -> Iterator[str]:
+    def of_text(self, text: str, place: str, few: int) -> Iterator[str]:
         """What is unlikely in a text."""
         yield from ["markup in text"] * len(SIGN.findall(text))
-        if text.strip() and place in BARE and place not in self.style.with_text and self.style.blank > FEW:
+        if text.strip() and place in BARE and place not in self.style.with_text and self.style.blank > few:
             yield "bare text"
 
-    def of_tag(self, tag: Tag, part: str, left: tuple[bool, bool] | None, right: tuple[bool, bool] | None) -> Iterator[str]:
+    def of_tag(self, tag: Tag, part: str, left: tuple[bool, bool] | None, right: tuple[bool, bool] | None, few: int) -> Iterator[str]:
         """What is unlikely about a tag between two characters, by those that are like it."""
         named = self.style.by_name[tag.name]
         alike = named[tag.kind]
@@ -423,7 +425,7 @@ class Choice:
         of_kind = self.style.by_kind[tag.kind, purpose(tag.name)]
         if SPACED_END.search(part, tag.start, tag.end) and of_kind.count and not of_kind.is_spaced:
             yield "shape"
-        if tag.name not in TABLE and not any(one.count for one in named.values()) and self.style.by_kind["start", "wrapper"].count > FEW:
+        if tag.name not in TABLE and not any(one.count for one in named.values()) and self.style.by_kind["start", "wrapper"].count > few:
             yield "tag"
         if self.style.has_other_shape(tag):
             yield "identifier"

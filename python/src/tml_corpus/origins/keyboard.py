@@ -8,19 +8,22 @@ from enum import Enum
 from typing import NamedTuple
 
 AMERICAN = (
-    ("`1234567890-=", "~!@#$%^&*()_+"), (" qwertyuiop[]\\", " QWERTYUIOP{}|"), (" asdfghjkl;'", ' ASDFGHJKL:"'), (" zxcvbnm,./", " ZXCVBNM<>?"),
+    ("`1234567890-=", "~!@#$%^&*()_+"), (" qwertyuiop[]\\", " QWERTYUIOP{}|"),
+    (" asdfghjkl;'", ' ASDFGHJKL:"'), (" zxcvbnm,./", " ZXCVBNM<>?"),
 )  # fmt: skip
 """The rows of keys, without and with shift. A key lies between two keys of the row above it, of which its own place is the first one. A
 space is no key."""
 
 GERMAN = (
-    ("^1234567890\xdf\xb4", '\xb0!"\xa7$%&/()=?`'), (" qwertzuiop\xfc+", " QWERTZUIOP\xdc*"), (" asdfghjkl\xf6\xe4#", " ASDFGHJKL\xd6\xc4'"), ("<yxcvbnm,.-", ">YXCVBNM;:_"),
+    ("^1234567890ß´", '°!"§$%&/()=?`'), (" qwertzuiopü+", " QWERTZUIOPÜ*"),
+    (" asdfghjklöä#", " ASDFGHJKLÖÄ'"), ("<yxcvbnm,.-", ">YXCVBNM;:_"),
 )  # fmt: skip
 FRENCH = (
-    ("\xb2&\xe9\"'(-\xe8_\xe7\xe0)=", " 1234567890\xb0+"), (" azertyuiop^$", " AZERTYUIOP\xa8\xa3"), (" qsdfghjklm\xf9*", " QSDFGHJKLM%\xb5"), ("<wxcvbn,;:!", ">WXCVBN?./\xa7"),
+    ("²&é\"'(-è_çà)=", " 1234567890°+"), (" azertyuiop^$", " AZERTYUIOP¨£"),
+    (" qsdfghjklmù*", " QSDFGHJKLM%µ"), ("<wxcvbn,;:!", ">WXCVBN?./§"),
 )  # fmt: skip
 
-BY_SPACE, BY_RETURN = "xcvbnm,.XCVBNM<>-_;:!", "'\"\\|]}#~+*$\xa3\xb5"
+BY_SPACE, BY_RETURN = "xcvbnm,.XCVBNM<>-_;:!", "'\"\\|]}#~+*$£µ"
 """What is written by the keys next to the space bar, and next to the key of the line feed."""
 
 MARKUP = "<>/='\""
