@@ -172,7 +172,7 @@ def template(name: str, **values: str) -> bytes:
 
 
 def control_of(tree: Tree, fields: dict[str, str]) -> Tree:
-    """The fields of a package, the last of which is its description, and the sums of its files."""
+    """The fields of a package, with its description as the last one, and the sums of its files."""
     files = {name: one.content for name, one in tree.items() if isinstance(one, File)}
     md5 = "".join(f"{hashlib.md5(content).hexdigest()}  {name}\n" for name, content in sorted(files.items()))
     size = sum(-(-len(content) // 1024) for content in files.values()) + len(tree) - len(files) + len(folders(tree))

@@ -89,7 +89,7 @@ def binary_at(path: Path) -> bytes:
 
 
 def said_by(path: Path, content: bytes, *arguments: str) -> str:
-    """What a program prints, of which this is the path and the content. It runs out of a folder of its own."""
+    """What the program at a path with this content prints, run out of a folder of its own."""
     with tempfile.TemporaryDirectory() as folder:
         program = Path(folder, path.name)
         program.write_bytes(content)

@@ -286,7 +286,8 @@ class Choice:
             return False
         lost, struck = (one, other) if one.keystroke.slip is Slip.LOST else (other, one)
         is_near = lost.keystroke.start in (struck.keystroke.start, struck.keystroke.end) and self.text_of(one) != self.text_of(other)
-        return is_near and not any(self.own_blemishes(other)[kind] for kind in (*IN_TEXT, "odd value"))
+        found = self.own_blemishes(other)
+        return is_near and not (found["markup in text"] or found["odd value"] or (found["bare text"] and self.style.blank > FEW))
 
     def without_worse(self, groups: list[list[Origin]]) -> list[list[Origin]]:
         """The groups with the fewest blemishes of each kind, the worst kind first."""

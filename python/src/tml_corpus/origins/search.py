@@ -266,11 +266,11 @@ class Search:
         """Whether the whole document is accepted: first by what it needs of the stretch, and then by `tml`."""
         draft, (first, last) = self.draft, self.draft.within(origin.start, origin.end)
         before, needed = draft.before[first], draft.needed[last]
-        if draft.after(before, tags) != needed or not self.may_be(origin, tags) or self.has_stray_text(origin, tags, before):
+        if draft.after(before, tags) != needed or not draft.refers_well(first, last, tags):
             return False
-        if not (draft.refers_well(first, last, tags) and draft.are_single(first, last, tags, draft.repeated)):
+        if not draft.are_single(first, last, tags, draft.repeated) or not self.may_be(origin, tags):
             return False
-        return self.are_good(origin, tags) and self.first_fault(origin) is None
+        return not self.has_stray_text(origin, tags, before) and self.are_good(origin, tags) and self.first_fault(origin) is None
 
     def may_be(self, origin: Origin, tags: list[Tag]) -> bool:
         """Whether each tag of a stretch may be one of the document, and each reference is one to a character."""
