@@ -78,7 +78,7 @@ class Both(InquiryTest):
             (("check", "check --lint"), "a.xml", ["check"]),
             (both, "a.xml", ["solve"]),
             # Each `check` is of a keystroke that may have caused the fault.
-            (both, "c.xml", ["solve", *["check"] * 7]),
+            (both, "c.xml", ["solve", *["check"] * 15]),
             (both, "b.xml", ["solve", "dates", "verify"]),
             (both, "t.xml", ["solve", "dates", "solve"]),
             (both, "e.xml", ["solve", "verify"]),
