@@ -38,8 +38,8 @@ EDGE = re.compile("[<>\"']")
 SIGN = re.compile("(?<!(?<!-)[-=])(?<![^\\s\"'/]\\s)>|!--")
 """A `>` in a text that is neither the head of an arrow nor between words, or the beginning of a comment."""
 
-FEW = 2
-"""So few others say nothing of what is usual."""
+FEW, MANY = 2, 1000
+"""So few others say nothing of what is usual, and of more than so many nothing new is learnt."""
 
 MOST_SPACES = 64
 """How much white space before a tag is compared at most."""
@@ -97,12 +97,14 @@ class Likeness:
     """Whether there is white space before the `>` of one."""
 
     def learn(self, tag: Tag, text: str) -> None:
-        """Takes in how one more tag is written."""
+        """Takes in how one more tag is written; after many only its attributes."""
         self.count += 1
+        self.attributes.update(name for name, _ in tag.pairs)
+        if self.count > MANY:
+            return
         self.lefts.add(kind_of(text[tag.start - 1 : tag.start]))
         self.rights.add(kind_of(text[tag.end : tag.end + 1]))
         self.gaps.update(gaps(tag, text))
-        self.attributes.update(name for name, _ in tag.pairs)
         self.is_spaced |= SPACED_END.search(text, tag.start, tag.end) is not None
 
 

@@ -30,7 +30,7 @@ MOST_READ, MOST_CHECKED, MOST_BYTES = 60_000_000, 300, 16 << 20
 """How much is read of what is around keystrokes, which takes about a second, how many texts `tml` checks, and of how many characters
 together. If that does not do, nothing is decided."""
 
-EACH, EACH_ORIGIN, EACH_READ = 256, 2000, 8
+EACH, EACH_ORIGIN, EACH_READ = 450, 2000, 8
 """What it takes of this to try the keystrokes of one kind at one place, to look at what one leaves, and to read a character of a tag."""
 
 TURNS = re.compile("[/!?>-]")
