@@ -265,7 +265,7 @@ for text in EDGES:
 
 def main() -> None:
     limit = int(os.environ.get("LIMIT", "1000000"))
-    random.Random(1).shuffle(CASES)
+    random.Random(int(os.environ.get("SEED", "1"))).shuffle(CASES)
     done: dict[str, int] = {}
     p, out, only = program(), open(sys.argv[1], "w"), sys.argv[2:]
     good: dict[str, bool] = {}

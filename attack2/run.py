@@ -1,14 +1,16 @@
 """Slips at random over all manners: python3 run.py SEED SECONDS OUT LAYOUTS."""
 
 import json
+import os
 import random
 import sys
 import time
 
 from judge import judged, program
-from manners import MANNERS, document
+from manners import MANNERS, ORDINARY, document
 from slips import KEYBOARDS, KINDS, places, slip_at
 
+UNIFORM = "UNIFORM" in os.environ  # slips at any place of ordinary documents, each place as likely
 SIZES = [200, 400, 800, 800, 1500, 1500, 2500, 2500, 4000, 4000, 8000]
 
 
@@ -16,7 +18,7 @@ def main() -> None:
     seed, limit, out = int(sys.argv[1]), float(sys.argv[2]), open(sys.argv[3], "a")
     rng, p, start, cleans = random.Random(seed), program(), time.time(), {}
     while time.time() - start < limit:
-        manner, which, size = rng.choice(list(MANNERS)), rng.randint(0, 5) + seed * 10, rng.choice(SIZES)
+        manner, which, size = rng.choice(ORDINARY if UNIFORM else list(MANNERS)), rng.randint(0, 5) + seed * 10, rng.choice(SIZES)
         key = (manner, which, size)
         if key not in cleans:
             clean = document(*key)
@@ -32,13 +34,13 @@ def main() -> None:
         if cleans[key] is None:
             continue
         text = cleans[key].decode()
-        share, at = places(text, rng)
+        share, at = ("any", rng.randrange(len(text))) if UNIFORM else places(text, rng)
         layout = rng.choice(sys.argv[4].split(","))
         kind = rng.choice(KINDS)
         slipped = slip_at(text, at, kind, KEYBOARDS[layout], rng)
         if slipped is None or slipped == text:
             continue
-        if p.check(slipped.encode()).status == 0 and rng.random() < 0.8:
+        if p.check(slipped.encode()).status == 0 and rng.random() < (1 if UNIFORM else 0.8):
             out.write(json.dumps({"manner": manner, "kind": kind, "share": share, "layout": layout, "word": "accepted", "skipped": 1}) + "\n")
             continue
         v = judged(p, cleans[key], slipped.encode())
