@@ -136,7 +136,7 @@ def said_of_crates(lines: Iterable[str]) -> Mapping[str, Said]:
 
 
 def problem_of(said: Said, logic: str) -> str:
-    """Why what is said of a crate does not say that it is proved by the kit with this logic; empty if it does."""
+    """Why the log does not show that the kit with this logic proved a crate; empty if it does."""
     if any(verdict.startswith("is kept") for verdict in said.verdicts):
         return "kept from an earlier run, without a count"
     if "NOT PROVED" in said.verdicts or any(one["logic"] != "proved" for one in said.counts):
@@ -179,7 +179,7 @@ def sum_of_sources(tree: Path, names: Iterable[str]) -> str:
 
 
 def sums_of(tree: Path, sources: Iterable[str]) -> list[str]:
-    """The lines of the binaries, all of which have to be newer than the sources. The files for browsers are left out if none is there."""
+    """The lines of the binaries, which have to be newer than the sources. The files for browsers are left out if none is there."""
     web = [shown(FOLDER / name) for name in NAMES]
     names = [*map(shown, MADE_BY), *(web if any((tree / name).exists() for name in web) else ())]
     missing = [name for name in names if not (tree / name).is_file()]

@@ -42,7 +42,7 @@ def wheel(source: Source, notices: bytes, files: dict[str, File], platform: str)
         "entry_points.txt": entry_points().encode(),
         "top_level.txt": b"tml\ntml_corpus\n",
     }
-    # What is said of a wheel comes last, so that it is found soon.
+    # The metadata of a wheel comes last, so that pip finds it soon.
     tree = dict(sorted(files.items())) | {f"{folder}/{name}": File(content) for name, content in sorted(about.items())}
     record = "".join(f"{name},sha256={digest(file.content)},{len(file.content)}\n" for name, file in tree.items())
     tree[f"{folder}/RECORD"] = File(f"{record}{folder}/RECORD,,\n".encode())
