@@ -6,17 +6,11 @@
  * The kind of a block is the number of its size, in units of sixteen bytes. From eight units on there are only eight sizes
  * to each doubling, so that no more than an eighth of a block is left unused. A unit before each block has its kind.
  */
-typedef unsigned long long u64;
+#include "heap.h"
 
 enum { UNIT = 16, PAGE = 1 << 16, KINDS = 224 };
 
 static const u64 MOST = 1ull << 32; /* what addresses of 32 bits reach */
-
-/* What the proved code is told: whether there was memory, and if so where. */
-struct tried {
-    u64 is_made;
-    void *at;
-};
 
 struct head {
     u64 kind, unused;

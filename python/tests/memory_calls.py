@@ -182,7 +182,7 @@ class Graph:
                     yield function
             elif owner is not None:
                 wanted = caller.owner if owner == "Self" else owner
-                if wanted == (function.owner or function.file.stem):
+                if wanted == (function.owner or function.file.stem) or function.owner is None and wanted == function.crate:
                     yield function
             elif function.owner is None and self.home(file.brought.get(name, file.crate), name) == function.crate:
                 yield function

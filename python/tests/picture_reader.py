@@ -17,7 +17,12 @@ Path = list[list[tuple[float, float]]]
 
 NUMBER = re.compile(r"-?[\d.]+")
 SIGNS = {"before": "<", "never-after": "≤", "together": "=", "is before": "<", "is never after": "≤", "is": "="}
-SAID = re.compile(r"the (start|end) of .*?\(?([^ ()]+)\)? (is before|is never after|is) the (start|end) of .*?\(?([^ ()]+)\)?")
+ORDER = re.compile(r"the (start|end) of .*?\(?([^ ()]+)\)? (is before|is never after|is) the (start|end) of .*?\(?([^ ()]+)\)?")
+"""An order as the page for browsers lists it."""
+
+SAID = re.compile(r"(?:(starts|ends) )?(before|after|not after|not before|at) (?:the (start|end) of )?(?:.* )?\(?([^ ()]+)\)?")
+SAID_SIGNS = {"before": "<", "after": ">", "not after": "≤", "not before": "≥", "at": "="}
+TURNED = {">": "<", "≥": "≤"}
 
 
 @dataclass(frozen=True)
@@ -79,6 +84,9 @@ class Picture:
     bars: list[Bar] = field(default_factory=list)
     marks: list[tuple[str, float, float]] = field(default_factory=list)
     lines: list[tuple[str, tuple[float, float], tuple[float, float]]] = field(default_factory=list)
+    leaders: list[tuple[float, float, float]] = field(default_factory=list)
+    """How far down each line is that leads to a name, and from where to where it is."""
+
     listed: dict[str, str] = field(default_factory=dict)
     texts: list[tuple[float, float, str, float, str]] = field(default_factory=list)
     """Of each text its place, its anchor, its size and its words."""
@@ -113,6 +121,8 @@ class Picture:
         if kind == "place":
             assert ends[0] == ends[2]
             self.places.append((ends[0], path.attrib["data-point"].split(" ")))
+        elif kind == "leader":
+            self.leaders.append((ends[1], ends[0], ends[2]))
         elif kind in ("begun", "not-ended"):
             self.marks.append((kind, ends[0], ends[1]))
         elif kind in ("before", "never-after", "together"):
@@ -199,7 +209,17 @@ class Picture:
                 yield Statement("listed", name + "+", "may be <", points[0])
             for part in said.partition("): ")[2].split("; "):
                 if part:
-                    match = SAID.fullmatch(part)
-                    assert match is not None, part
-                    first, second = (match[place + 1] + "+-"[match[place] == "start"] for place in (1, 4))
-                    yield Statement("in words", first, SIGNS[match[3]], second)
+                    yield self.in_words(name, part)
+
+    def in_words(self, name: str, said: str) -> Statement:
+        """An order of an interval in words: of one of its ends, or that it is before or after another interval as a whole."""
+        if found := ORDER.fullmatch(said):
+            first, second = (found[place + 1] + "+-"[found[place] == "start"] for place in (1, 4))
+            return Statement("in words", first, SIGNS[found[3]], second)
+        match = SAID.fullmatch(said)
+        assert match is not None and (match[1] is None) == (match[3] is None), said
+        sign, whole = SAID_SIGNS[match[2]], match[1] is None
+        own = name + ("+-"[match[2] == "after"] if whole else "+-"[match[1] == "starts"])
+        other = match[4] + ("-+"[match[2] == "after"] if whole else "+-"[match[3] == "start"])
+        first, second = (other, own) if sign in TURNED else (own, other)
+        return Statement("in words", first, TURNED.get(sign, sign), second)

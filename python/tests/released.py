@@ -20,6 +20,7 @@ from typing import NamedTuple
 
 from corpus import LIBRARY, TESTS, TML, TOP, text_at
 from processes import BARE, PATIENCE
+from releasing.debian import LINKED
 
 TML_VERIFY = os.path.abspath(os.environ.get("TML_VERIFY") or os.path.join(TOP, "crates/tml_verify/out/tml_verify"))
 STATIC = os.path.join(os.path.dirname(LIBRARY), "libtml.a")
@@ -29,6 +30,9 @@ BUILT = {"tml/out/tml": TML, "tml_verify/out/tml_verify": TML_VERIFY, "tml_c/out
 IS_BUILT = all(map(os.path.isfile, BUILT.values()))
 MISSING = [name for name in ("cc", "git", "readelf", "dpkg-deb") if shutil.which(name) is None]
 WEB = ("tml.html", "tml.wasm", "tml.mjs", "tml.d.mts")
+NATIVE = {"tml-aarch64": b"for ARM\n", "tml.exe": b"for Windows\n"}
+"""Stand-ins for the programs for other systems."""
+
 TIME = 1795824000
 """When the copies were committed: 2026-11-28 at midnight."""
 
@@ -65,7 +69,7 @@ def compiled(path: Path, *options: str, answer: str = "") -> None:
 
 
 def build(crates: Path) -> None:
-    """Puts what was built into a folder `crates`, or a stand-in for each, and stand-ins for the files for browsers."""
+    """Puts what was built into a folder `crates`, or a stand-in for each, and stand-ins for the files for browsers and other systems."""
     for name, path in BUILT.items():
         (crates / name).parent.mkdir(parents=True, exist_ok=True)
         if IS_BUILT:
@@ -79,6 +83,10 @@ def build(crates: Path) -> None:
     (crates / "tml_c/out/web").mkdir()
     for name in WEB:
         (crates / "tml_c/out/web" / name).write_text(f"{name}\n", encoding="utf-8")
+    (crates / "tml_c/out/native").mkdir()
+    for name, content in NATIVE.items():
+        (crates / "tml_c/out/native" / name).write_bytes(content)
+    shutil.copyfile(crates / "tml_c/out/libtml.so", crates / "tml_c/out/native/libtml-aarch64.so")
 
 
 def kit_at(kit: Path) -> str:
@@ -97,19 +105,21 @@ def kit_at(kit: Path) -> str:
 
 def copy_at(top: Path) -> None:
     """A copy of the repository, as far as it is read, with one commit."""
-    ignored = shutil.ignore_patterns("__pycache__", "tests", "differential", "reference", "promises")
-    for folder in ("python", "tools", "docs", "samples", "web", "crates/tml_verify/data"):
+    ignored = shutil.ignore_patterns("__pycache__", "tests", "promises")
+    for folder in ("python", "tools", "docs", "samples", "native", "web", "crates/tml_verify/data"):
         shutil.copytree(os.path.join(TOP, folder), top / folder, ignore=ignored)
-    for name in ("README.md", "CHANGELOG.md", "pyproject.toml", "crates.txt", ".gitignore", "crates/tml_verify/stdout"):
+    names = ("README.md", "CHANGELOG.md", "SECURITY.md", "pyproject.toml", "crates.txt", ".gitignore", "crates/tml_verify/stdout")
+    for name in (*names, *LINKED):
+        (top / name).parent.mkdir(parents=True, exist_ok=True)
         shutil.copyfile(os.path.join(TOP, name), top / name)
     build(top / "crates")
     for words in (("init", "-q"), ("add", "."), ("commit", "-q", "-m", "All")):
         ran("git", "-C", top, *words, **COMMIT)
 
 
-def release(copy: Path, folder: Path, umask: int = -1) -> subprocess.CompletedProcess[str]:
+def release(copy: Path, folder: Path, *options: str, umask: int = -1) -> subprocess.CompletedProcess[str]:
     """Runs `tools/release` of a copy, whose kit is that of its folder."""
-    words, path = [*BARE, str(copy / "tools/release"), str(folder)], f"{copy.parent}/kit/bin:{os.environ['PATH']}"
+    words, path = [*BARE, str(copy / "tools/release"), *options, str(folder)], f"{copy.parent}/kit/bin:{os.environ['PATH']}"
     variables = {**os.environ, **COMMIT, **compiled_below(copy.parent), "PATH": path}
     return subprocess.run(words, env=variables, capture_output=True, text=True, check=False, timeout=PATIENCE, umask=umask)
 
@@ -121,18 +131,18 @@ def compiled_below(folder: Path) -> dict[str, str]:
 
 def entries(path: Path) -> dict[str, Entry]:
     """What is in a file of a release, without folders, by names. A file that is no archive has nothing."""
-    if path.suffix == ".whl":
-        return dict(of_wheel(path))
+    if path.suffix in (".whl", ".zip"):
+        return dict(of_zip(path))
     if path.suffix == ".deb":
         return dict(of_tar(ran("dpkg-deb", "--fsys-tarfile", path)))
     return dict(of_tar(path.read_bytes())) if path.suffix == ".gz" else {}
 
 
-def of_wheel(path: Path) -> Iterator[tuple[str, Entry]]:
-    """The files of a wheel, which has no owners."""
-    with zipfile.ZipFile(path) as wheel:
-        for one in wheel.infolist():
-            yield one.filename, Entry(wheel.read(one), "", stat.S_IMODE(one.external_attr >> 16), "root", timegm(one.date_time))
+def of_zip(path: Path) -> Iterator[tuple[str, Entry]]:
+    """The files of a wheel or a zip file, which has no owners."""
+    with zipfile.ZipFile(path) as archive:
+        for one in archive.infolist():
+            yield one.filename, Entry(archive.read(one), "", stat.S_IMODE(one.external_attr >> 16), "root", timegm(one.date_time))
 
 
 def of_tar(content: bytes) -> Iterator[tuple[str, Entry]]:

@@ -246,7 +246,8 @@ class Forms(AgreeTest):
         names = ("line", "column", "number", "left", "relation", "right", "missing")
         self.assertEqual([first[name] for name in names], [6, 1, 0, "i1", "BEFORE", "i2", []])
         self.assertEqual(len(first["possible"]), 13)
-        self.assertEqual(left_out, {"path": "a/alone.xml", "notCounted": "without a partner", "problem": "there is no b/alone.xml"})
+        reason = {"notCounted": "without a partner", "problem": "there is no b/alone.xml"}
+        self.assertEqual(left_out, {"version": 1, "path": "a/alone.xml", **reason})
         self.assertEqual((sums["pairs"], sums["micro"]["documentLinks"], sums["macro"]["recall"]), (1, 2, {"value": 1.0, "pairs": 1}))
 
     def test_csv(self) -> None:

@@ -247,7 +247,7 @@ class Formats(CorpusTest):
         )
         _, lines, error = self.run_it("check", "--format", "jsonl", *self.paths)
         one, two, three = (json.loads(line) for line in lines)
-        self.assertEqual(one, {"path": "a.xml", "verdict": "accepted", "faults": [], "warnings": []})
+        self.assertEqual(one, {"version": 1, "path": "a.xml", "verdict": "accepted", "faults": [], "warnings": []})
         self.assertEqual((three["verdict"], three["problem"]), ("not judged", "no such file or directory"))
         [fault] = two["faults"]
         self.assertEqual(

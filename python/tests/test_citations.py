@@ -49,7 +49,10 @@ class Item:
 
 
 def items_of(file: str, text: str) -> dict[str, Item]:
-    """The public items in the text of a source, by their names, those of a type or a trait after its own: `Type::name`."""
+    """The public items in the text of a source, by their names, those of a type or a trait after its own: `Type::name`.
+
+    A law is a function that does nothing, or nothing but call a law of its type parameter.
+    """
     items: dict[str, Item] = {}
     kind, owner, item = "", "", Item(file)
     for line in text.splitlines():
@@ -66,7 +69,7 @@ def items_of(file: str, text: str) -> dict[str, Item]:
                 items[owner + function[2]] = item
         elif clause := re.match(r" +ensures (?:(\w+) )?\{", line):
             item.clauses.add(clause[1] or "")
-        elif line == "{}":
+        elif line == "{}" or re.fullmatch(r"    [A-Z]::\w+\(\);", line):
             item.is_law = True
         elif kind == "trait" and (law := re.match(r"    ghost (\w+): \{", line)):
             items[owner + law[1]] = Item(file, {""}, is_law=True)
@@ -352,7 +355,7 @@ class WrongCitations(unittest.TestCase):
         self.assert_wrong("`Closed::copi` in `order_closure/src/table.rt`", "no public item `Closed::copi` in `order_closure`")
 
     def test_functions_that_are_not_public(self) -> None:
-        self.assert_wrong("`reply_to`: `reply` in `tml_tool/src/top.rt`", "no public item `reply_to` in `tml_tool`")
+        self.assert_wrong("`document_of`: `ok` in `answers/src/judged.rt`", "no public item `document_of` in `answers`")
         self.assert_wrong("`components_of` in `net_orders/src/components.rt`", "no public item `components_of` in `net_orders`")
         self.assert_wrong("`BaseSet::none` in `tml_possible/src/base_set.rt`", "no public item `BaseSet::none` in `tml_possible`")
 

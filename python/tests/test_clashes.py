@@ -58,7 +58,7 @@ class Clashes(CorpusTest):
         self.write("d.xml", document(times + '<TLINK timeID="a" relatedToTime="b" relType="BEFORE"/>'))
         _, lines, _ = self.run_it("clashes", "d.xml")
         self.assertTrue(lines[0].endswith(": the 1990s& BEFORE 1980-Q1 (link 0: a BEFORE b)"), lines[0])
-        said = "by the calendar 1980-Q1 starts at 1980-01-01T00:00:00, and the 1990s& starts no earlier than 1990-01-01T00:00:00"
+        said = "by the calendar 1980-Q1 ends at 1980-04-01T00:00:00, and the 1990s& starts no earlier than 1990-01-01T00:00:00"
         self.assertTrue(lines[3].endswith(said), lines[3])
 
     def test_evidence_is_kept_and_verified(self) -> None:
@@ -81,7 +81,7 @@ class Clashes(CorpusTest):
         fake = self.fake(f'if [ $1 = solve ]; then {TML} "$@" | sed "s/^span 1$/span 2/"; exit 2; fi\nexec {TML} "$@"')
         status, lines, _ = self.run_it("clashes", "plant.xml", tml=fake)
         self.assertEqual(status, 2)
-        self.assertEqual(lines[0], "plant.xml: not judged: tml verify refused the evidence of tml solve: evidence claim 0 part 1 Step 3")
+        self.assertEqual(lines[0], "plant.xml: not judged: tml verify refused the evidence of tml solve: evidence claim 0 part 1 Step 4")
 
     def test_faults_and_files_that_are_not_there(self) -> None:
         self.write("a.xml", document(EVENT + "<EVENT/>"))

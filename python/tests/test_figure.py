@@ -146,7 +146,7 @@ class Timelines(FigureTest):
         self.assertEqual(lines, ["d.xml: drawn in d.svg: 3 intervals, 3 links, an axis of 6 places; 10 intervals left out"])
 
     def test_how_much_a_page_has_room_for(self) -> None:
-        for count, most in ((34, 148), (60, 257), (300, None)):
+        for count, most in ((34, 128), (60, 257), (500, None)):
             days = [f'<TIMEX3 tid="t{day}" type="DATE" value="1998-01-{day + 1:02}"/>' for day in range(9)]
             links = [link(number, "BEFORE", number + 2) for number in range(0, count - 2, 3)]
             links += [
@@ -214,8 +214,8 @@ class Clashes(FigureTest):
         for text in ("end of waited", "end of closed", "end of Monday", "start of Wednesday", "start of reopened"):
             self.assertIn(text, shown)
         said = " ".join(shown)
-        self.assertIn("1 end of waited is no later than end of closed, since waited DURING closed (l6: ei5 DURING ei4)", said)
-        self.assertIn("So the end of waited would be before itself.", said)
+        self.assertIn("1 start of reopened is no later than end of waited, since waited IBEFORE reopened (l12: ei5 IBEFORE ei9)", said)
+        self.assertIn("So the start of reopened would be before itself.", said)
         self.assertEqual(picture.count('stroke-dasharray="1.6 1.2"'), 2)
         self.assertEqual(self.run_it("timeline", "--bare", "d.xml", "-o", "d.svg")[1][-1], "d.xml: its first clash is drawn in d.svg")
 

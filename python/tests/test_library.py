@@ -10,21 +10,22 @@ import struct
 import subprocess
 import tempfile
 import unittest
+import zipfile
 from collections.abc import Mapping, Sequence
 from pathlib import Path
 from unittest import mock
 
-from building.linking import linked
+from building.linking import EXPORTS, SONAME, linked
 from corpus import TESTS, TML, TOOLS, TOP, match_in, text_at
 from differential.cases import Case
 from refused_memory import runs
 from releasing.debian import dev_package, library_package, write_tree
+from releasing.dist import DIST
 from releasing.outputs import Outputs
 from releasing.source import Source, versions_of
 
 ARCHIVE = os.path.abspath(os.environ.get("TML_ARCHIVE") or os.path.join(TOP, "crates", "tml_c", "out", "libtml_c.a"))
 CALLER, REFUSING, WRONG = (os.path.join(TESTS, name) for name in ("library_caller.c", "refusing_caller.c", "wrong_library.c"))
-EXPORTS = {"tml_answer", "tml_most_of_document", "tml_most_of_evidence"}
 LIBRARIES = "usr/lib/x86_64-linux-gnu"
 MISSING = [name for name in ("cc", "ld", "objcopy", "ar", "rt") if shutil.which(name) is None]
 STRIDE = 40
@@ -46,6 +47,24 @@ def ran(*words: str | Path, env: Mapping[str, str] | None = None) -> str:
     if done.returncode != 0:
         raise AssertionError(f"{words}: {done.returncode}: {done.stderr.decode('utf-8', 'replace')}")
     return done.stdout.decode()
+
+
+def versions_of_map() -> dict[str, str]:
+    """The functions that tml.map exports, and the version of each."""
+    blocks = re.findall(r"^(\w[\w.]*) \{\s*global:([^}]*?)(?:local:[^}]*)?\}", text_at("tools/library/tml.map"), re.MULTILINE)
+    return {name: version for version, names in blocks for name in re.findall(r"\w+", names)}
+
+
+def exported_by(library: Path) -> dict[str, str]:
+    """The functions and data that a shared library exports, and the version of each; an empty one if it has none."""
+    lines = ran("nm", "-D", "--defined-only", library).splitlines()
+    symbols = [symbol.partition("@@") for _, kind, symbol in map(str.split, lines) if kind != "A"]
+    return {name: version for name, _, version in symbols}
+
+
+def name_of(library: Path) -> str:
+    """The name by which programs that are linked with a shared library ask for it."""
+    return match_in(r"\(SONAME\) .*\[(.*)\]", ran("readelf", "-d", library))[1]
 
 
 def given(case: Case) -> tuple[bytes, bytes, bytes]:
@@ -248,16 +267,29 @@ class Library(unittest.TestCase):
     def test_allocations_refused_with_valgrind(self) -> None:
         self.refused(self.built("watched-refusing", REFUSING, "-l:libtml.a", WRAPPED), self.cases(STRIDE), VALGRIND)
 
+    def test_symbols_and_their_versions(self) -> None:
+        """The shared library, the version script, the header and docs/STABILITY.md name the same functions and versions. A library of the
+        same name in dist/ has no others."""
+        library, versions = self.root / LIBRARIES / "libtml.so", versions_of_map()
+        self.assertEqual(exported_by(library), versions)
+        self.assertEqual(set(versions), set(EXPORTS))
+        header = (self.root / "usr/include/tml.h").read_text(encoding="utf-8")
+        self.assertEqual(set(re.findall(r"^\w+ \**(\w+)\(", header, re.MULTILINE)), set(versions))
+        self.assertEqual(name_of(library), SONAME)
+        page = match_in(r"^\| C \| (.*) \|$", text_at("docs/STABILITY.md"), re.MULTILINE)[1]
+        self.assertIn(f"`{SONAME}` exports them", page)
+        self.assertEqual(set(re.findall(r"\bTML_[\d.]*\d", page)), set(versions.values()))
+        for wheel in DIST.glob("*_x86_64.whl"):
+            with zipfile.ZipFile(wheel) as archive:
+                last = Path(archive.extract("tml/libtml.so", self.folder))
+            if name_of(last) == SONAME:
+                self.assertLessEqual(exported_by(last).items(), versions.items())
+
     def test_what_is_shown(self) -> None:
-        for option, name in (("-D", "libtml.so"), ("-g", "libtml.a")):
-            lines = ran("nm", option, "--defined-only", self.root / LIBRARIES / name).splitlines()
-            self.assertEqual({line.split()[-1].split("@")[0] for line in lines if re.search(" [TDBRW] ", line)}, EXPORTS, name)
+        lines = ran("nm", "-g", "--defined-only", self.root / LIBRARIES / "libtml.a").splitlines()
+        self.assertEqual({line.split()[-1] for line in lines if re.search(" [A-Z] ", line)}, set(EXPORTS))
         used = set(re.findall(r" U (\w+)", ran("nm", "-g", self.root / LIBRARIES / "libtml.a")))
         self.assertEqual(used - {"memcpy", "memmove", "memset", "memcmp"}, {"malloc", "realloc", "free"}, "other ways to take memory")
-        header = (self.root / "usr/include/tml.h").read_text(encoding="utf-8")
-        self.assertEqual(set(re.findall(r"^uint\d+_t (\w+)\(", header, re.MULTILINE)), EXPORTS)
-        self.assertIn("TML_0.4", ran("nm", "-D", self.root / LIBRARIES / "libtml.so"))
-        self.assertIn("libtml.so.0", ran("readelf", "-d", self.root / LIBRARIES / "libtml.so"))
 
     def test_the_same_again(self) -> None:
         contents = [(self.root / LIBRARIES / name).read_bytes() for name in ("libtml.so", "libtml.a")]

@@ -31,7 +31,8 @@ class Links(unittest.TestCase):
             for path, anchor in LINK.findall(without_blocks(page)):
                 with self.subTest(page=page.name, link=f"{path}#{anchor}"):
                     target = page.parent / path if path else page
-                    if "://" not in path:
+                    # A clone that was never released from has no dist/.
+                    if "://" not in path and not (path.startswith("dist/") and not Path(TOP, "dist").exists()):
                         self.assertTrue(target.exists())
                     if anchor and target.suffix == ".md":
                         self.assertIn(anchor, anchors(target.resolve()))

@@ -199,9 +199,8 @@ class FoundByPeople(unittest.TestCase):
         self.assertEqual((done.returncode, done.stdout.count("error:")), (1, 1), done.stdout)
 
     def test_versions(self) -> None:
-        self.assertEqual(
-            re.findall(r"^## (\d\S*), ", Path(TOP, "CHANGELOG.md").read_text(encoding="utf-8"), re.MULTILINE)[0], tml.__version__
-        )
+        changes = Path(TOP, "CHANGELOG.md").read_text(encoding="utf-8")
+        self.assertEqual(re.findall(r"^## \[(\d.*?)\] - ", changes, re.MULTILINE)[0], tml.__version__)
         self.assertNotIn(tml.__version__, Path(TOP, "pyproject.toml").read_text(encoding="utf-8"))
         for name in ("tml-corpus", "tml-edit", "redundant-links", "from-tempeval2", "html-entities"):
             done = self.run_python(os.path.join(TOOLS, name), "--version")

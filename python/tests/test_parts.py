@@ -395,7 +395,7 @@ class Project(unittest.TestCase):
 
     def test_version_and_programs(self) -> None:
         project = self.project()["project"]
-        self.assertEqual(VERSION, match_in(r"^## (\S+), ", text_at("CHANGELOG.md"), re.MULTILINE)[1])
+        self.assertEqual(VERSION, match_in(r"^## \[(\d.*?)\] - ", text_at("CHANGELOG.md"), re.MULTILINE)[1])
         for name, place in project["scripts"].items():
             module, function = place.split(":")
             script = os.path.join(TOOLS, name if name in ("tml-corpus", "tml-edit") else name.removeprefix("tml-"))
@@ -404,6 +404,22 @@ class Project(unittest.TestCase):
                 self.assertEqual(function, os.path.basename(script).replace("-", "_"))
                 said = subprocess.run([*BARE, script, "--version"], capture_output=True, text=True, check=True).stdout
                 self.assertEqual(said, f"{os.path.basename(script)} {VERSION}\n")
+
+    def test_changes_are_below_known_headings_and_what_breaks_comes_first(self) -> None:
+        known = ["Added", "Changed", "Deprecated", "Fixed", "Removed", "Security"]
+        first, *versions = re.split(r"^## ", text_at("CHANGELOG.md"), flags=re.MULTILINE)[1:]
+        self.assertTrue(first.startswith("[Unreleased]\n"))
+        for version in (first, *versions):
+            kinds = {head: text for head, text in (part.split("\n", 1) for part in version.split("\n### ")[1:])}
+            self.assertEqual(list(kinds), [kind for kind in known if kind in kinds], version[:20])
+            for text in kinds.values():
+                breaking = [line.startswith("- **Breaking:** ") for line in text.splitlines() if line.startswith("- ")]
+                self.assertEqual(breaking, sorted(breaking, reverse=True), text)
+                self.assertTrue(breaking, f"nothing is below a heading of {version[:20]}")
+
+    def test_keywords_are_those_of_a_citation(self) -> None:
+        cited = re.findall(r"^  - (.*)$", text_at("CITATION.cff").partition("\nkeywords:\n")[2], re.MULTILINE)
+        self.assertEqual(cited, self.project()["project"]["keywords"])
 
     def test_nothing_is_locked_where_it_is_imported(self) -> None:
         paths = (path.relative_to(SOURCES).with_suffix("").as_posix() for path in sorted(Path(SOURCES, "tml_corpus").rglob("*.py")))

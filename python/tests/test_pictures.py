@@ -2,6 +2,7 @@
 
 from __future__ import annotations
 
+import functools
 import importlib.util
 import itertools
 import random
@@ -12,13 +13,16 @@ import xml.etree.ElementTree as ElementTree
 from collections import Counter
 from collections.abc import Collection, Iterator, Mapping
 
+from browser import needs_browser
 from corpus import TML, CorpusTest, by_library, needs_library, needs_matrix, text_at
+from hard_documents import ORDINARY, WORDS, hard_document, labels_of
+from looking import opened
 from picture_forms import by_pdf, by_tex
 from picture_reader import SVG, Picture, Statement
 from reference.relations import holds
 from tml.statuses import BASE_RELATIONS, RELATIONS
-from tml_corpus.figure.draw import Paper, width_of
-from tml_corpus.timeline.lettering import measured
+from tml_corpus.figure.draw import PAGE, SCREEN, Paper, width_of
+from tml_corpus.timeline.lettering import measured, plain
 from tml_corpus.timeline.timeline import Choices, draw_document
 
 DOCUMENTS = 200
@@ -118,16 +122,31 @@ def random_document(number: int) -> str:
     return "<TimeML>" + ". ".join(tags) + "".join(links) + "</TimeML>"
 
 
+def layout_of(page: str, name: str) -> str:
+    """One of the two pictures of a page."""
+    [found] = [one for one in ElementTree.fromstring(page.encode()).iter(SVG + "svg") if one.get("id") == name]
+    return ElementTree.tostring(found, encoding="unicode")
+
+
 class Pictures(CorpusTest):
     """Pictures that are drawn in this process."""
 
-    FORMS: Mapping[str, Paper | None] = {
-        "screen": None, "84mm": Paper(".svg", width_of("84mm")), "174mm": Paper(".svg", width_of("174mm")), "page": None
+    FORMS: Mapping[str, Paper] = {
+        "screen": SCREEN, "84mm": Paper(".svg", width_of("84mm")), "174mm": Paper(".svg", width_of("174mm")),
+        "narrow": SCREEN, "wide": SCREEN,
     }  # fmt: skip
+    """The forms by their names: files, and the two layouts of a page."""
 
     def drawn(self, content: str, form: str) -> str:
         """The picture of a document in a form, as the reader takes it."""
-        return self.made(content, Choices(paper=self.FORMS[form]), "d.html" if form == "page" else "d.svg").decode()
+        if form in ("narrow", "wide"):
+            return layout_of(self.page(content), form)
+        return self.made(content, Choices(paper=self.FORMS[form]), "d.svg").decode()
+
+    @functools.lru_cache(1)
+    def page(self, content: str) -> str:
+        """The page of a document, which has two layouts."""
+        return self.made(content, Choices(), "d.html").decode()
 
     def made(self, content: str, choices: Choices, name: str) -> bytes:
         """The file of a picture."""
@@ -203,6 +222,23 @@ class Stated(Pictures):
         return stated
 
 
+SIZES = ((3, 1), (10, 3), (34, 9), (60, 15), (300, 40))
+"""How many events and dates the documents have that are made to be hard to draw."""
+
+Box = tuple[float, float, float, float, str]
+"""The left, top, right and bottom edge of a text, and its words."""
+
+
+def apart(one: Box, other: tuple[float, float, float, float]) -> bool:
+    """Whether a text is not over something else."""
+    return one[2] <= other[0] + 0.02 or other[2] <= one[0] + 0.02 or one[3] <= other[1] or other[3] <= one[1]
+
+
+def text_boxes(picture: Picture) -> list[Box]:
+    """The boxes of the texts of a picture, as broad as they are at most."""
+    return [(x, y - 0.72 * size, x + measured(text, size), y + 0.15 * size, text) for x, y, _, size, text in picture.texts]
+
+
 @needs_matrix
 @needs_library
 class Read(Pictures):
@@ -212,38 +248,60 @@ class Read(Pictures):
         """Documents of several kinds and sizes."""
         yield from map(random_document, range(0, DOCUMENTS, 10))
         yield from (text_at("samples", name) for name in ("ferry.xml", "rates.xml", "bridge.xml"))
-        for count in (34, 60):
-            tags = "".join(
-                f'<EVENT eid="e{n}" class="STATE">word{n}</EVENT><MAKEINSTANCE eiid="i{n}" eventID="e{n}"/>' for n in range(count)
-            )
-            ends = [(n, n + 1 if n % 3 else (n + 2) % count) for n in range(count - 2)]
-            yield f"<TimeML>{tags}" + "".join(
-                f'<TLINK eventInstanceID="i{one}" relatedToEventInstance="i{other}" relType="{"BEFORE" if one % 5 else "INCLUDES"}"/>'
-                for one, other in ends
-            ) + "</TimeML>"
+        yield from (hard_document(events, dates, 1) for events, dates in SIZES)
 
-    def test_no_text_is_cut_or_over_another(self) -> None:
+    def test_texts_and_bars(self) -> None:
         for content, form in itertools.product(self.contents(), self.FORMS):
             picture = Picture.read(self.drawn(content, form))
-            boxes = []
-            for x, y, anchor, size, text in picture.texts:
-                self.assertEqual(anchor, "start")
-                boxes.append((x, x + measured(text, size), y - 0.72 * size, y + 0.15 * size, text))
-                self.assertTrue(
-                    0 <= x and boxes[-1][1] <= picture.width + 0.1 and 0 <= boxes[-1][2] and boxes[-1][3] <= picture.height, text
-                )
-                self.assertNotIn("\u2026", text)
-            for one, other in itertools.combinations(boxes, 2):
-                is_apart = one[1] <= other[0] or other[1] <= one[0] or one[3] <= other[2] or other[3] <= one[2]
-                self.assertTrue(is_apart, f"{one[4]} and {other[4]}, {form}: {content}")
+            with self.subTest(form=form, content=content):
+                self.are_texts_apart(picture)
+                self.are_bars_apart(picture)
+                self.are_texts_over_their_own_bars(picture, {name: plain(text) or name for name, text in labels_of(content).items()})
+                self.are_names_of_dates_whole(picture)
 
-    def test_bars_of_different_intervals_do_not_meet(self) -> None:
-        for content, form in itertools.product(self.contents(), self.FORMS):
-            for one, other in itertools.combinations(Picture.read(self.drawn(content, form)).whole_bars(), 2):
-                is_apart = min(one.right, other.right) <= max(one.left, other.left) + 0.02 or min(one.bottom, other.bottom) <= max(
-                    one.top, other.top
-                )
-                self.assertTrue(is_apart, (one, other))
+    def are_texts_apart(self, picture: Picture) -> None:
+        """Each text is in the picture, and over no other text."""
+        boxes = text_boxes(picture)
+        self.assertEqual({anchor for _, _, anchor, _, _ in picture.texts}, {"start"})
+        for left, top, right, bottom, text in boxes:
+            self.assertTrue(0 <= left and right <= picture.width + 0.1 and 0 <= top and bottom <= picture.height, text)
+        for one, other in itertools.combinations(boxes, 2):
+            self.assertTrue(apart(one, other[:4]), (one, other))
+
+    def are_bars_apart(self, picture: Picture) -> None:
+        """Bars of different intervals do not meet."""
+        for one, other in itertools.combinations(picture.whole_bars(), 2):
+            is_apart = min(one.right, other.right) <= max(one.left, other.left) + 0.02 or min(one.bottom, other.bottom) <= max(
+                one.top, other.top
+            )
+            self.assertTrue(is_apart, (one, other))
+
+    def are_texts_over_their_own_bars(self, picture: Picture, labels: Mapping[str, str]) -> None:
+        """A text that is over a bar is the label of that bar, or the name of that date, and then it is inside."""
+        for bar, box in itertools.product(picture.whole_bars(), text_boxes(picture)):
+            if not apart(box, (bar.left, bar.top, bar.right, bar.bottom)):
+                is_own = labels[bar.name].startswith(box[4].rstrip("\u2026")[:70])
+                is_date = bar.classes[1] == "exact" and bar.left <= box[0] and box[2] <= bar.right
+                self.assertTrue(is_own or is_date, (box, bar))
+
+    def are_names_of_dates_whole(self, picture: Picture) -> None:
+        """Each date above the axis has a name, in its box or at the end of a line that leads to it, and none is cut."""
+        top = min((bar.top for bar in picture.bars if bar.classes[1] != "exact"), default=picture.height)
+        names = [box for box in text_boxes(picture) if box[3] < top]
+        self.assertEqual([text for *_, text in names if "\u2026" in text or "..." in text], [])
+        for bar in picture.bars:
+            if bar.bottom < top:
+                inside = [box for box in names if bar.left <= box[0] and box[2] <= bar.right and bar.top <= box[1] and box[3] <= bar.bottom]
+                ends = [x for y, *xs in picture.leaders if bar.top < y < bar.bottom for x in xs]
+                self.assertTrue(inside or any(abs(x - side) < 0.1 for x in ends for side in (bar.left, bar.right)), bar)
+
+    def test_how_many_events_a_page_has_room_for(self) -> None:
+        for events, dates, form, words, most in (
+            (34, 9, "174mm", WORDS, PAGE / 2), (60, 15, "174mm", WORDS, PAGE), (60, 15, "84mm", ORDINARY, PAGE),
+        ):  # fmt: skip
+            for seed in range(1, 6):
+                picture = Picture.read(self.drawn(hard_document(events, dates, seed, words), form))
+                self.assertLessEqual(picture.height, most, (events, form, seed))
 
     def test_those_who_do_not_see_are_told(self) -> None:
         root = ElementTree.fromstring(self.drawn(text_at("samples", "ferry.xml"), "84mm").encode())
@@ -252,6 +310,31 @@ class Read(Pictures):
         self.assertIn("left (ei1): starts after the start of 9 March 1998 (t1); ends before the end of 9 March 1998 (t1).", said[1])
         self.assertIn("Also, the end of warned (ei2) is before the start of strike (ei3).", said[1])
         self.assertIn("Nothing says when: planned (ei8), raised (ei9).", said[1])
+
+
+LENGTHS = """[...document.querySelectorAll("svg text")].filter((one) => one.getAttribute("fill") !== "none")
+.map((one) => one.getComputedTextLength())"""
+"""How long the texts of a picture are as a browser sets them."""
+
+
+@needs_browser
+@needs_matrix
+@needs_library
+class Seen(Pictures):
+    """That pictures can be read in a browser, whose letters have a breadth of their own."""
+
+    def test_each_text_is_in_the_picture_and_over_no_other(self) -> None:
+        with opened() as browser:
+            for (events, dates), form in itertools.product(SIZES, ("screen", "84mm", "narrow")):
+                drawn = self.drawn(hard_document(events, dates, 3), form)
+                self.write("d.svg", drawn)
+                browser.open(self.path("d.svg"))
+                picture = Picture.read(drawn)
+                pairs = zip(text_boxes(picture), browser.value(LENGTHS), strict=True)
+                boxes = [(left, top, left + length, bottom, text) for (left, top, _, bottom, text), length in pairs]
+                self.assertEqual([one for one in boxes if one[2] > picture.width + 0.1], [], form)
+                over = [pair for pair in itertools.combinations(boxes, 2) if not apart(pair[0], pair[1][:4])]
+                self.assertEqual(over, [], form)
 
 
 if __name__ == "__main__":

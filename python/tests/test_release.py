@@ -22,13 +22,14 @@ from unittest import mock
 import tomllib
 
 import tml
+from building import native
 from building.linking import CannotMake
 from corpus import TOP, match_in, needed, text_at
 from installing import CAN_INSTALL, CANNOT
 from processes import BARE, PATIENCE, WITH_PACKAGES
-from released import BUILT, IS_BUILT, MISSING, TIME, WEB, Entry, compiled, compiled_below, copy_at, entries, kit_at, ran, release
-from releasing import browsers, notices, trying
-from releasing.debian import SCRIPTS
+from released import BUILT, IS_BUILT, MISSING, NATIVE, TIME, WEB, Entry, compiled, compiled_below, copy_at, entries, kit_at, ran, release
+from releasing import browsers, emulated, natives, notices, outputs, trying
+from releasing.debian import LINKED, SCRIPTS
 from releasing.source import versions_of
 from releasing.symbols import glibc_of, versions_needed
 
@@ -36,7 +37,8 @@ NOT_BUILT = "no program, checker and libraries in crates/*/out: .ci/run makes th
 VERSION = tml.__version__
 LIBTML = ("libtml", "libtml-dev")
 DEBS = tuple(f"{package}_{VERSION}_amd64.deb" for package in ("tml-timeml", *LIBTML))
-TAR = f"tml-{VERSION}-linux-x86_64.tar.gz"
+TAR, ARM_TAR = (f"tml-{VERSION}-linux-{processor}.tar.gz" for processor in ("x86_64", "aarch64"))
+ZIP = f"tml-{VERSION}-windows-x86_64.zip"
 INFO = f"tml_corpus-{VERSION}.dist-info"
 DOCS, SHARE, IMPORTED = "usr/share/doc/tml-timeml", "usr/share/tml-timeml", "usr/lib/python3/dist-packages"
 LIBRARIES = "usr/lib/x86_64-linux-gnu"
@@ -74,10 +76,10 @@ def binaries() -> list[Path]:
     return [FOLDER / "copy/crates" / name for name in BUILT if not name.endswith(".a")]
 
 
-def wheels() -> tuple[str, str]:
-    """The names of the wheels: that of Python alone, and that of this machine."""
-    of_python, of_machine = sorted(name for name in FILES if name.endswith(".whl"))
-    return of_python, of_machine
+def wheels() -> tuple[str, str, str]:
+    """The names of the wheels: that of Python alone, that for ARM, and that for this machine."""
+    of_python, of_arm, of_machine = sorted(name for name in FILES if name.endswith(".whl"))
+    return of_python, of_arm, of_machine
 
 
 def built(name: str) -> bytes:
@@ -88,8 +90,9 @@ def built(name: str) -> bytes:
 class Release(unittest.TestCase):
     def test_names(self) -> None:
         tag = "manylinux_{}_{}_x86_64".format(*glibc_of(binaries()))
-        names = {*DEBS, TAR, *WEB, "NOTICES", "MANIFEST", "SHA256SUMS"}
-        names |= {f"tml_corpus-{VERSION}-py3-none-{platform}.whl" for platform in ("any", tag)}
+        arm = "manylinux_{}_{}_aarch64".format(*glibc_of([FOLDER / "copy/crates/tml_c/out/native/libtml-aarch64.so"]))
+        names = {*DEBS, TAR, ARM_TAR, ZIP, *WEB, "NOTICES", "MANIFEST", "SHA256SUMS"}
+        names |= {f"tml_corpus-{VERSION}-py3-none-{platform}.whl" for platform in ("any", tag, arm)}
         self.assertEqual(set(FILES), names)
         self.assertEqual((FOLDER / "printed").read_text().splitlines(), [f"{FOLDER}/made/{name}" for name in sorted(names)])
         self.assertEqual({stat.S_IMODE(path.stat().st_mode) for path in (FOLDER / "made").iterdir()}, {0o644})
@@ -106,7 +109,7 @@ class Release(unittest.TestCase):
 
     def test_owners_and_times(self) -> None:
         for archive, files in FILES.items():
-            owner = "root" if archive.endswith(".whl") else "root/root"
+            owner = "root" if archive.endswith((".whl", ".zip")) else "root/root"
             self.assertEqual({(one.owner, one.time) for one in files.values()}, {(owner, TIME)} if files else set(), archive)
 
     def test_no_file_names_the_place(self) -> None:
@@ -135,13 +138,29 @@ class Release(unittest.TestCase):
         self.assertEqual(re.findall(rb"^The licence of (\w+)$", text, re.MULTILINE), [b"itoa", b"jiff", b"memchr", b"simdutf8"])
         self.assertIn(b"\n== Crates of the Rattle kit: jiff, jiff_core, jiff_tz\n", text)
         self.assertIn(b"tml itself has no licence yet", text)
+        self.assertIn(b"GNU LESSER GENERAL PUBLIC LICENSE", text)
+        self.assertIn(b"the mingw-w64 project", text)
         places = {archive: [name for name, one in files.items() if one.content == text] for archive, files in FILES.items() if files}
         wanted = {deb: [f"usr/share/doc/{deb.split('_')[0]}/NOTICES"] for deb in DEBS}
-        wanted |= {TAR: [f"tml-{VERSION}/share/doc/tml/NOTICES"], **{wheel: [f"{INFO}/NOTICES"] for wheel in wheels()}}
+        wanted |= {tar: [f"tml-{VERSION}/share/doc/tml/NOTICES"] for tar in (TAR, ARM_TAR)} | {ZIP: ["NOTICES.txt"]}
+        wanted |= {wheel: [f"{INFO}/NOTICES"] for wheel in wheels()}
         self.assertEqual(places, wanted)
 
     def test_files_for_browsers(self) -> None:
         self.assertEqual([(FOLDER / "made" / name).read_text() for name in WEB], [f"{name}\n" for name in WEB])
+
+
+class Dist(unittest.TestCase):
+    def test_it_gets_files_of_the_release_and_has_no_others(self) -> None:
+        dist, made = FOLDER / "copy/dist", FOLDER / "made"
+        self.addCleanup(shutil.rmtree, dist)
+        (dist / "older").mkdir(parents=True)
+        done = release(FOLDER / "copy", made, "--dist")
+        self.assertEqual((done.returncode, done.stderr), (0, ""))
+        whole = {*wheels()[1:], TAR, ARM_TAR, ZIP, "tml.html", "NOTICES"}
+        self.assertEqual({path.name for path in dist.iterdir()}, whole | {"MANIFEST", "SHA256SUMS"})
+        self.assertEqual(done.stdout.splitlines(), [str(path) for path in sorted(dist.iterdir())])
+        self.assertEqual([name for name in whole if (dist / name).read_bytes() != (made / name).read_bytes()], [])
 
 
 class Wheels(unittest.TestCase):
@@ -149,9 +168,14 @@ class Wheels(unittest.TestCase):
         modules = {name.removeprefix("python/src/"): 0o644 for name in MODULES}
         about = {f"{INFO}/{name}": 0o644 for name in ("METADATA", "NOTICES", "WHEEL", "entry_points.txt", "top_level.txt", "RECORD")}
         scripts = {f"tml_corpus-{VERSION}.data/scripts/{name}": 0o755 for name in ("tml", "tml-verify")}
-        of_python, of_machine = ({name: one.mode for name, one in FILES[wheel].items()} for wheel in wheels())
+        of_python, of_arm, of_machine = ({name: one.mode for name, one in FILES[wheel].items()} for wheel in wheels())
         self.assertEqual(of_python, modules | about)
-        self.assertEqual(of_machine, modules | about | scripts | {"tml/tml": 0o755, "tml/libtml.so": 0o644})
+        found = {"tml/tml": 0o755, "tml/libtml.so": 0o644}
+        self.assertEqual(of_machine, modules | about | scripts | found)
+        program = f"tml_corpus-{VERSION}.data/scripts/tml"
+        self.assertEqual(of_arm, modules | about | {program: 0o755} | found)
+        contents = [FILES[wheels()[1]][name].content for name in (program, "tml/tml", "tml/libtml.so")]
+        self.assertEqual(contents, [NATIVE["tml-aarch64"]] * 2 + [built("tml_c/out/native/libtml-aarch64.so")])
 
     def test_the_record(self) -> None:
         for wheel in wheels():
@@ -167,14 +191,16 @@ class Wheels(unittest.TestCase):
         contents = b"".join(path.read_bytes() for path in binaries())
         newest = max((int(first), int(second)) for first, second in re.findall(rb"\0GLIBC_(\d+)\.(\d+)", contents))
         tag = "py3-none-manylinux_{}_{}_x86_64".format(*max(newest, (2, 5)))
-        fields = email.message_from_bytes(FILES[wheels()[1]][f"{INFO}/WHEEL"].content)
+        fields = email.message_from_bytes(FILES[wheels()[2]][f"{INFO}/WHEEL"].content)
         self.assertEqual((fields["Tag"], fields["Root-Is-Purelib"], fields["Wheel-Version"]), (tag, "false", "1.0"))
+        fields = email.message_from_bytes(FILES[wheels()[1]][f"{INFO}/WHEEL"].content)
+        self.assertRegex(fields["Tag"], "^py3-none-manylinux_2_[0-9]+_aarch64$")
         fields = email.message_from_bytes(FILES[wheels()[0]][f"{INFO}/WHEEL"].content)
         self.assertEqual((fields["Tag"], fields["Root-Is-Purelib"]), ("py3-none-any", "true"))
 
     def test_metadata(self) -> None:
         about = tomllib.loads(text_at("pyproject.toml"))["project"]
-        fields = email.message_from_bytes(FILES[wheels()[1]][f"{INFO}/METADATA"].content)
+        fields = email.message_from_bytes(FILES[wheels()[2]][f"{INFO}/METADATA"].content)
         wanted = {"Name": "tml-corpus", "Version": VERSION, "Summary": about["description"], "Requires-Python": ">=3.11"}
         self.assertEqual({name: fields[name] for name in wanted}, wanted)
         self.assertEqual(fields.get_all("Classifier"), about["classifiers"])
@@ -199,7 +225,7 @@ class Installed(unittest.TestCase):
     @classmethod
     def setUpClass(cls) -> None:
         cls.target = FOLDER / "target"
-        words = ["--quiet", "--no-index", "--no-compile", "--target", str(cls.target), str(FOLDER / "made" / wheels()[1])]
+        words = ["--quiet", "--no-index", "--no-compile", "--target", str(cls.target), str(FOLDER / "made" / wheels()[2])]
         ran(*WITH_PACKAGES, "-m", "pip", "install", *words, PYTHONPYCACHEPREFIX="")
 
     def run_words(self, *words: str | Path) -> tuple[int, str, str]:
@@ -244,6 +270,16 @@ class Tar(unittest.TestCase):
         for name, source in texts.items():
             self.assertEqual(files[name][:3], (text_at(source).encode(), "", 0o644))
 
+    def test_the_program_for_arm(self) -> None:
+        files = {name.removeprefix(f"tml-{VERSION}/"): one for name, one in FILES[ARM_TAR].items()}
+        self.assertEqual(files["bin/tml"][:3], (NATIVE["tml-aarch64"], "", 0o755))
+        names = {"bin/tml", "share/man/man1/tml.1", "share/bash-completion/completions/tml", "share/doc/tml/NOTICES"}
+        self.assertEqual(set(files), names)
+
+    def test_the_program_for_windows(self) -> None:
+        self.assertEqual(set(FILES[ZIP]), {"tml.exe", "NOTICES.txt"})
+        self.assertEqual(FILES[ZIP]["tml.exe"][:3], (NATIVE["tml.exe"], "", 0o755))
+
 
 def files_in(folder: str, end: str = "") -> list[str]:
     """The names of the files of a folder of the repository."""
@@ -257,8 +293,9 @@ def names_of_program_package() -> set[str]:
     names |= {f"{SHARE}/{name}" for name in MODULES}
     names |= {f"usr/share/bash-completion/completions/{name}" for name in ("tml", *SCRIPTS.values())}
     names |= {f"usr/share/man/man1/{name}.1.gz" for name in ("tml", "tml-verify", "tml-tools", *SCRIPTS.values())}
-    names |= {f"{DOCS}/{name}" for name in ("README.md", "CHANGELOG.md", "changelog.gz", "copyright", "NOTICES")}
-    names |= {f"{DOCS}/docs/{name}" for name in files_in("docs", ".md")}
+    names |= {f"{DOCS}/{name}" for name in ("README.md", "CHANGELOG.md", "SECURITY.md", "changelog.gz", "copyright", "NOTICES")}
+    names |= {f"{DOCS}/{name}" for name in (*(f"docs/{page}" for page in files_in("docs", ".md")), *LINKED)}
+    names |= {f"{DOCS}/dist/tml.html", *(f"{DOCS}/docs/schema/{name}" for name in files_in("docs/schema"))}
     return names | {f"{DOCS}/{folder}/{name}" for folder in ("samples", "samples/first", "samples/second") for name in files_in(folder)}
 
 
@@ -278,6 +315,15 @@ class Packages(unittest.TestCase):
                 self.assertEqual(one.mode, 0o777 if one.target else 0o755 if name in programs else 0o644)
                 leads_to = os.path.normpath(os.path.join(os.path.dirname(name), one.target)) if one.target else name
                 self.assertTrue(leads_to in files or f"{leads_to}/__init__.py" in files, f"it leads nowhere: {one.target}")
+
+    def test_links_of_the_pages_lead_somewhere(self) -> None:
+        files = {name: one for deb in DEBS for name, one in FILES[deb].items()}
+        there = {*files, *(os.path.dirname(name) for name in files)}
+        pages = {name: one.content.decode() for name, one in files.items() if name.endswith(".md")}
+        texts = {name: re.sub("```.*?```", "", page, flags=re.DOTALL) for name, page in pages.items()}
+        links = [(name, link) for name, text in texts.items() for link in re.findall(r"\]\((?!https?:)([^)#\s]+)", text)]
+        self.assertGreater(len(links), 100)
+        self.assertEqual([one for one in links if os.path.normpath(os.path.join(os.path.dirname(one[0]), one[1])) not in there], [])
 
     def test_the_packages_of_the_library(self) -> None:
         shared = f"{LIBRARIES}/libtml.so.{VERSION}"
@@ -421,7 +467,7 @@ class Refused(unittest.TestCase):
         self.assertEqual(self.refusal(), "crates were changed after crates/tml/out/tml was made: .ci/run makes it anew")
 
     def test_a_version_that_is_not_in_the_changes(self) -> None:
-        self.replaced("CHANGELOG.md", b"# Changes\n\n## 99.0.0, 2026-11-29\n")
+        self.replaced("CHANGELOG.md", b"# Changes\n\n## [99.0.0] - 2026-11-29\n")
         self.assertEqual(self.refusal(), f"the newest version of CHANGELOG.md is 99.0.0, and that of the package tml is {VERSION}")
 
     def test_a_crate_without_a_licence(self) -> None:
@@ -441,7 +487,7 @@ class Parts(unittest.TestCase):
         self.assertIn("Example: ", done.stdout)
 
     def test_each_version_is_after_the_one_before_it(self) -> None:
-        changes = "# Changes\n\n## Unreleased\n\n## 0.2.0, 2026-11-29\n\n## 0.1.1, 2026-11-29\n\n## 0.1.0, 2026-11-27\n"
+        changes = "# Changes\n\n## [Unreleased]\n\n## [0.2.0] - 2026-11-29\n\n## [0.1.1] - 2026-11-29\n\n## [0.1.0] - 2026-11-27\n"
         dates = [(version.name, version.date.isoformat()) for version in versions_of(changes)]
         days = [("0.2.0", "2026-11-29T00:01:00"), ("0.1.1", "2026-11-29T00:00:00"), ("0.1.0", "2026-11-27T00:00:00")]
         self.assertEqual(dates, [(version, f"{day}+00:00") for version, day in days])
@@ -449,7 +495,7 @@ class Parts(unittest.TestCase):
     def test_without_files_for_browsers(self) -> None:
         with mock.patch.object(browsers, "FOLDER", FOLDER / "made"):
             self.assertEqual(set(browsers.web_files()), set(WEB))
-            with mock.patch.object(browsers, "changed_below", return_value=time.time() + 1):
+            with mock.patch.object(outputs, "changed_below", return_value=time.time() + 1):
                 self.assertEqual(browsers.web_files(), {}, "they are older than the crates")
         with mock.patch.object(browsers, "FOLDER", FOLDER):
             self.assertEqual(browsers.web_files(), {})
@@ -458,6 +504,17 @@ class Parts(unittest.TestCase):
             self.assertEqual(browsers.what_makes_them(), build)
         with mock.patch.object(browsers, "PROGRAMS", ("no-such-program",)):
             self.assertEqual(browsers.what_makes_them(), f"tools/install-needs && {build}")
+
+    def test_without_programs_for_other_systems(self) -> None:
+        with mock.patch.object(natives, "FOLDER", FOLDER / "copy/crates/tml_c/out/native"):
+            self.assertIsNone(natives.left_out())
+            with mock.patch.object(outputs, "changed_below", return_value=time.time() + 1):
+                self.assertEqual(natives.built_for(native.WINDOWS), {}, "they are older than the crates")
+        packages = "gcc-aarch64-linux-gnu libc6-dev-arm64-cross gcc-mingw-w64-x86-64-posix"
+        for can_link, install in ((False, f"apt-get install {packages} && "), (True, "")):
+            with mock.patch.object(natives, "FOLDER", FOLDER), mock.patch.object(natives, "can_link", return_value=can_link):
+                makes = f"{install}tools/native/build crates/tml_c/out/native makes what they need"
+                self.assertEqual(natives.left_out(), f"without tml-aarch64, libtml-aarch64.so, tml.exe: {makes}")
 
     @unittest.skipUnless(shutil.which("rt"), "no rt: a kit has it")
     def test_notices_of_the_kit(self) -> None:
@@ -470,7 +527,10 @@ class Parts(unittest.TestCase):
     def test_what_is_tried(self) -> None:
         ran("sh", "-n", trying.SCRIPT)
         patterns = re.findall(r"/release/(\S+)", trying.SCRIPT.read_text(encoding="utf-8"))
-        self.assertEqual({tuple(fnmatch.filter(FILES, pattern)) for pattern in patterns}, {(name,) for name in (*DEBS, TAR, *wheels())})
+        tried = (*DEBS, TAR, wheels()[0], wheels()[2])
+        self.assertEqual({tuple(fnmatch.filter(FILES, pattern)) for pattern in patterns}, {(name,) for name in tried})
+        patterns = [emulator.archive for emulator in emulated.EMULATORS]
+        self.assertEqual([fnmatch.filter(FILES, pattern) for pattern in patterns], [[ARM_TAR], [ZIP]])
 
     def test_what_is_no_release_is_not_tried(self) -> None:
         with self.assertRaisesRegex(CannotMake, " is no release: it has no SHA256SUMS$"):

@@ -154,16 +154,16 @@ class Pages(ReportTest):
         self.assertEqual(
             ["".join(step.itertext()) for step in walk],
             [
+                "the start of reopened ei9 is no later than the end of waited ei5, since waited IBEFORE reopened (l12: ei5 IBEFORE ei9)",
                 "the end of waited ei5 is no later than the end of closed ei4, since waited DURING closed (l6: ei5 DURING ei4)",
                 "the end of closed ei4 is before the end of Monday t1, since closed IS_INCLUDED Monday (l5: ei4 IS_INCLUDED t1)",
                 "the end of Monday t1 is before the start of Wednesday t2, since by the calendar Monday ends at 1998-03-10T00:00:00, and "
                 "Wednesday starts at 1998-03-11T00:00:00",
                 "the start of Wednesday t2 is before the start of reopened ei9, since reopened IS_INCLUDED Wednesday (l11: ei9 IS_INCLUDED "
                 "t2)",
-                "the start of reopened ei9 is no later than the end of waited ei5, since waited IBEFORE reopened (l12: ei5 IBEFORE ei9)",
             ],
         )
-        self.assertIn("So the end of waited ei5 would be before itself", self.said(page, "clash1"))
+        self.assertIn("So the start of reopened ei9 would be before itself", self.said(page, "clash1"))
         self.assertNotIn("Timeline", self.text(page))
         self.assertIn("part of clash 1", self.said(page, "link4"))
 
@@ -246,7 +246,7 @@ class Strangers(ReportTest):
                     self.assertFalse([key for key in one.keys() if key.startswith("on") or key == "style"], one.tag)
                     self.assertRegex(
                         one.get("href", "#a"),
-                        r"^(#(word|bar|link)\d+|#a|#drawn|\.\./index\.html|(\.\./)?report\.css|documents/[\w.-]+\.html)$",
+                        r"^(#(word|bar|link)\d+|#a|#narrow|#wide|\.\./index\.html|(\.\./)?report\.css|documents/[\w.-]+\.html)$",
                     )
                 self.assertFalse(re.search(r"[\x00-\x09\x0b-\x1f\u202a-\u202e\u2066-\u2069]", page))
 
@@ -327,7 +327,7 @@ class InABrowser(ReportTest):
                     browser.value("[...document.querySelectorAll('.mark.on')].map((one) => one.dataset.intervals).sort().join(' ')")
                 )
                 self.assertEqual(browser.value("document.querySelectorAll('.arcs text').length"), 1)
-            self.assertEqual(seen, ["ei4 ei5", "ei4 t1", "t1 t2", "ei9 t2", "ei5 ei9", "ei4 ei5"])
+            self.assertEqual(seen, ["ei5 ei9", "ei4 ei5", "ei4 t1", "t1 t2", "ei9 t2", "ei5 ei9"])
             self.assertEqual(browser.said, [])
 
     def test_links_are_drawn_on_demand(self) -> None:

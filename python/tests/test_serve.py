@@ -125,9 +125,7 @@ class Answers(ServeTest):
         client = self.client()
         self.opened(client, self.sample("rates.xml"))
         time_of = self.hover(client, "<TIMEX3", 2)
-        self.assertRegex(
-            time_of, r"\*\*.* \(t\d+, (?:DATE|TIME) .*\)\*\*\n\ntime fixed by the calendar: \d+ \w+ \d{4}, \d\d:\d\d to \d\d:\d\d:\d\d\n"
-        )
+        self.assertRegex(time_of, r"\*\*.* \(t\d+, (?:DATE|TIME) .*\)\*\*\n\ndate: \d+ \w+ \d{4}, \d\d:\d\d to \d\d:\d\d:\d\d\n")
         self.assertRegex(
             self.hover(client, "<EVENT", 2), r"^\*\*\w+ \(e\d+, [A-Z_]+\): instance ei\d+\*\*\n\n\w+ [A-Z_, ]+ .* \(ei\d+, \w+\)"
         )
@@ -144,7 +142,7 @@ class Answers(ServeTest):
             "**x (e1, STATE): instance i1**\n\nx IS_INCLUDED, DURING Thursday (i1, t1)\n\nx BEFORE Friday (i1, t2)",
         )
         self.assertIn("follows from the links", self.hover(client, 'relType="BEFORE"', 2))
-        self.assertIn("time fixed by the calendar", self.hover(client, 'relatedToTime="t2"', 16))
+        self.assertIn("\n\ndate: ", self.hover(client, 'relatedToTime="t2"', 16))
 
     def test_definition_and_references(self) -> None:
         client = self.client()

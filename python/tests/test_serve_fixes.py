@@ -325,8 +325,8 @@ class Clashes(CorpusTest):
 
     def test_where_all_other_links_clash_those_of_the_clash_are_asked_about(self) -> None:
         text = chain(("i1", "BEFORE", "i2"), ("i2", "BEFORE", "i1"), ("i2", "INCLUDES", "i1"))
-        _, found = self.found(text, link("i2", "BEFORE", "i1"))
-        self.assertIn("Correct to INCLUDES, which fits the other links of this clash: ", "\n".join(one["title"] for one in found))
+        _, found = self.found(text, link("i1", "BEFORE", "i2"))
+        self.assertIn("Correct to IS_INCLUDED, which fits the other links of this clash: ", "\n".join(one["title"] for one in found))
         self.assertTrue(found[-1]["title"].startswith("Remove this link: "))
 
     def test_a_relation_that_is_at_fault_is_ordered_by_what_is_possible(self) -> None:

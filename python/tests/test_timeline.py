@@ -229,19 +229,19 @@ class Strangers(TimelineTest):
             root = ElementTree.fromstring(page.encode())
             parsed = Parsed(page)
             self.assertEqual((parsed.open, parsed.wrong), ([], []))
-            self.assertEqual(parsed.names.count("script"), 5)
+            self.assertEqual(parsed.names.count("script"), 4)
             self.assertEqual([tag.tag for tag in root], [XHTML + "head", XHTML + "body"])
-            self.assertEqual([one.get("id") for one in root.iter(SVG + "svg")], [None, "drawn"])
-            self.assertEqual([tag.get(name) for tag in root.iter() for name in ("src", "href") if tag.get(name)], ["#drawn"])
+            self.assertEqual([one.get("id") for one in root.iter(SVG + "svg")], [None, "narrow", None, "wide"])
+            self.assertEqual([tag.get(name) for tag in root.iter() for name in ("src", "href") if tag.get(name)], ["#narrow", "#wide"])
             self.assertIn("default-src 'none'", page)
 
     @needs_matrix
     def test_the_rows_that_a_page_marks_are_those_of_the_links(self) -> None:
         links = link(3, "BEFORE", 1) + link(2, "AFTER", 1) + link(3, "IDENTITY", 3)
         page = self.drawn(document(event(1) + event(2) + event(3) + links), "d.html")
-        [partners] = re.findall(r'<script type="application/json" id="partners">(.*?)</script>', page)
+        [ends] = re.findall(r'<script type="application/json" id="ends">(.*?)</script>', page)
         rows = [f"({one.get('data-interval')}):" for one in ElementTree.fromstring(page.encode()).iter(XHTML + "div") if one.get("title")]
-        self.assertEqual((rows, partners), (["(i3):", "(i1):", "(i2):"], "[[1],[0,2],[1]]"))
+        self.assertEqual((rows, ends), (["(i3):", "(i1):", "(i2):"], '[[0,"BEFORE",1],[2,"AFTER",1],[0,"IDENTITY",0]]'))
 
     def test_long_texts_are_cut(self) -> None:
         for text in ("word " * 50, "W" * 300, "日" * 300, "e\u0301" * 300):

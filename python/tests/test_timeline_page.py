@@ -7,6 +7,7 @@ import os
 import re
 import shutil
 import subprocess
+import time
 import unicodedata
 import unittest
 
@@ -57,11 +58,10 @@ class InABrowser(PageTest):
             main = browser.value(place.replace("SELECTOR", "'main'"))
             browser.value(f"document.querySelector('main').scrollTo(5000, {SCROLLED})")
             self.assertGreater(browser.value("document.querySelector('main').scrollTop"), 0.9 * SCROLLED)
-            self.assertEqual(browser.value(place.replace("SELECTOR", "'.axis svg'"))[1], main[1])
+            self.assertEqual(browser.value(place.replace("SELECTOR", "'.wide .axis svg'"))[1], main[1])
             # The copy of the axis lies where the picture has it: a date that both have begins at the same position.
-            copied = browser.value(
-                "document.querySelector('.axis use').getBBox().width / document.querySelector('.axis svg').viewBox.baseVal.width"
-            )
+            share = "((axis) => axis.querySelector('use').getBBox().width / axis.viewBox.baseVal.width)"
+            copied = browser.value(f"{share}(document.querySelector('.wide .axis svg'))")
             self.assertAlmostEqual(copied, 1, delta=0.05)
             self.assertEqual(browser.said, [])
 
@@ -134,17 +134,34 @@ class InABrowser(PageTest):
                 self.assertLessEqual(width, 13 * 0.02 + measured(text, 13))
 
     def test_narrow(self) -> None:
+        shown = "[...document.querySelectorAll('.drawn')].filter((one) => one.getClientRects().length).map((one) => one.className).join()"
         with opened() as browser:
-            resized(browser, 400)
             browser.open(self.made(mended()))
-            box = "document.querySelector('#row6 .around').getBoundingClientRect()"
-            self.assertIn("while it was closed", browser.value("document.querySelector('#row6 .around').innerText"))
-            self.assertLessEqual(browser.value(f"{box}.right"), 400)
-            self.assertGreater(browser.value(f"{box}.width"), 150)
-            browser.value("document.querySelector('main').scrollTo(300, 0)")
-            self.assertGreater(browser.value("document.querySelector('main').scrollLeft"), 200)
-            self.assertTrue(browser.value(f"{box}.left >= 0 && {box}.right <= 400"), "they stay as the picture is scrolled")
-            self.assertLessEqual(browser.value("document.documentElement.scrollWidth"), 400)
+            self.assertEqual(browser.value(shown), "drawn wide")
+            for width in (320, 400, 800):
+                resized(browser, width)
+                self.assertEqual(browser.value(shown), "drawn narrow")
+                box = "document.querySelector('#row6 .around').getBoundingClientRect()"
+                self.assertIn("while it was closed", browser.value("document.querySelector('#row6 .around').innerText"))
+                self.assertLessEqual(browser.value(f"{box}.right"), width)
+                self.assertGreater(browser.value(f"{box}.width"), 150)
+                self.assertLessEqual(browser.value("document.querySelector('main').scrollWidth"), width)
+                self.assertLessEqual(browser.value("document.documentElement.scrollWidth"), width)
+
+    def test_links_are_drawn_in_the_layout_that_is_shown(self) -> None:
+        with opened() as browser:
+            browser.open(self.made(mended()))
+            browser.click("#row6")
+            for width, layout in ((1400, "wide"), (400, "narrow"), (1400, "wide")):
+                resized(browser, width)
+                is_drawn = f"document.querySelectorAll('#{layout} .link').length > 0"
+                end = time.monotonic() + 10
+                while not browser.value(is_drawn) and time.monotonic() < end:
+                    time.sleep(0.02)
+                counts = [browser.value(f"document.querySelectorAll('{one}').length") for one in (".link", f"#{layout} .link")]
+                self.assertGreater(counts[1], 0)
+                self.assertEqual(counts[0], counts[1])
+            self.assertEqual(browser.said, [])
 
 
 def placed(text: str) -> str:

@@ -12,14 +12,13 @@ import tempfile
 import unittest
 from base64 import b64encode
 from collections.abc import Iterator
-from functools import cache
 from pathlib import Path
 from random import Random
 
 from browser import Browser, needs_browser
 from building import web
 from building.compiling import MODULE
-from building.linking import folder_of_kit
+from copied_tool import Copy, clang, handing
 from corpus import TESTS, TML, TOOLS, TOP, match_in, of_type, text_at
 from differential.cases import Case, Output, Real
 from differential.devices import draw_real
@@ -47,12 +46,6 @@ needs_program = unittest.skipUnless(os.access(TML, os.X_OK), f"no program {TML}:
 needs_module = unittest.skipUnless(
     (FOLDER / "tml.wasm").is_file(), f"no module in {FOLDER}: tools/web/build makes it, or name its folder by TML_WEB="
 )
-
-
-@cache
-def clang() -> str:
-    """The compiler of the kit."""
-    return f"{folder_of_kit()}/toolchain/bin/clang"
 
 
 def node(*words: str | Path) -> str:
@@ -93,47 +86,20 @@ class Needed(unittest.TestCase):
 @needs_binaryen
 @unittest.skipUnless(MODULE.is_file(), f"no module {MODULE}: tools/library/build or tools/web/build makes it")
 class Build(unittest.TestCase):
-    """A copy of the tool, over two crates that `rt ci` seems to have proved, with a kit whose prover hands the module to the compiler."""
+    """A copy of the tool, with a kit whose prover hands the module to the compiler."""
 
     def setUp(self) -> None:
-        held = tempfile.TemporaryDirectory(prefix="web build-")
-        self.addCleanup(held.cleanup)
-        self.top = Path(os.path.realpath(held.name))
-        for folder in ("tools/web", "web", "samples", "python/src", "python/dev/building"):
-            shutil.copytree(os.path.join(TOP, folder), self.top / folder, ignore=shutil.ignore_patterns("__pycache__"))
-        (self.top / "crates.txt").write_text("low:\ntml_c staticlib: low\n", encoding="utf-8")
-        for name in ("low", "tml_c"):
-            (self.top / f"crates/{name}/src").mkdir(parents=True)
-            (self.top / f"crates/{name}/src/lib.rt").touch()
-        (self.top / "crates/low/out/rlib/low.rlib").mkdir(parents=True)
-        self.kit = self.top / "kit"
-        (self.kit / "bin").mkdir(parents=True)
-        (self.kit / "toolchain").symlink_to(f"{folder_of_kit()}/toolchain")
-        self.program("rt", f"echo {shlex.quote(str(self.kit))}/START-HERE.md")
-
-    def program(self, name: str, text: str) -> None:
-        """Puts a script into the kit."""
-        (self.kit / "bin" / name).write_text(f"#!/bin/sh\n{text}\n", encoding="utf-8")
-        (self.kit / "bin" / name).chmod(0o755)
+        self.copy = Copy()
+        self.addCleanup(self.copy.held.cleanup)
 
     def build(self, prover: str) -> tuple[int, list[str], list[str]]:
         """The status, what was printed, and what was said on standard error, if the prover is this script."""
-        self.program("rattle", prover)
-        variables = {**os.environ, "PATH": f"{self.kit}/bin:{os.environ['PATH']}", "PYTHONDONTWRITEBYTECODE": "1"}
-        words = [*BARE, str(self.top / "tools/web/build"), str(self.top / "made/here")]
-        done = subprocess.run(words, env=variables, capture_output=True, text=True, check=False, timeout=300)
-        return done.returncode, done.stdout.splitlines(), done.stderr.splitlines()
-
-    def handing(self, module: Path) -> str:
-        """A prover that has its compiler look at a module."""
-        given = shlex.quote(str(module))
-        return f"""while [ "$1" != --toolchain ]; do shift; done
-cp {given} module.bc; "$2/bin/clang" -S -emit-llvm -x ir module.bc -o module.ll"""
+        return self.copy.build("tools/web/build", prover)
 
     @needs_module
     def test_the_same_bytes_at_another_place(self) -> None:
-        made, names = self.top / "made/here", ("tml.wasm", "tml.mjs", "tml.d.mts", "tml.html")
-        status, said, told = self.build(self.handing(MODULE))
+        made, names = self.copy.top / "made/here", ("tml.wasm", "tml.mjs", "tml.d.mts", "tml.html")
+        status, said, told = self.build(handing(MODULE))
         self.assertEqual((status, said, told), (0, [f"{made}/{name}" for name in names], []))
         for name in names:
             self.assertEqual((made / name).read_bytes(), (FOLDER / name).read_bytes(), f"{FOLDER} is to be made anew: {name}")
@@ -147,15 +113,15 @@ cp {given} module.bc; "$2/bin/clang" -S -emit-llvm -x ir module.bc -o module.ll"
         self.assertEqual(self.build("exit 0"), (1, [], ["build: rattle has handed no module to its compiler"]))
 
     def test_another_module(self) -> None:
-        other = self.top / "other.bc"
+        other = self.copy.top / "other.bc"
         subprocess.run([clang(), "-c", "-emit-llvm", "-x", "c", os.devnull, "-o", other], check=True)
-        status, said, told = self.build(self.handing(other))
+        status, said, told = self.build(handing(other))
         self.assertEqual((status, said, len(told)), (1, [], 1))
         self.assertRegex(told[0], "^build: the module of rattle has no ")
 
     def test_a_library_that_was_changed(self) -> None:
-        made = self.top / "crates/low/out/rlib/low.rlib"
-        os.utime(self.top / "crates/low/src/lib.rt", (made.stat().st_mtime + 1,) * 2)
+        made = self.copy.top / "crates/low/out/rlib/low.rlib"
+        os.utime(self.copy.top / "crates/low/src/lib.rt", (made.stat().st_mtime + 1,) * 2)
         self.assertEqual(self.build("exit 0"), (1, [], ["build: crates/low was changed after `rt ci`, which has to run again"]))
 
 

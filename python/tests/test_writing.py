@@ -160,8 +160,11 @@ class Stopped(CorpusTest):
         found: State = {}
         for folder, _, names in os.walk(self.folder):
             for path in (os.path.join(folder, name) for name in names):
-                status = os.stat(path)
-                content = Path(path).read_bytes(), stat.S_IMODE(status.st_mode), status.st_uid, status.st_gid
+                try:
+                    status, written = os.stat(path), Path(path).read_bytes()
+                except FileNotFoundError:  # removed meanwhile by what a killed process had started
+                    continue
+                content = written, stat.S_IMODE(status.st_mode), status.st_uid, status.st_gid
                 found[os.path.relpath(path, self.folder)] = content
         return {name: state for name, state in found.items() if name not in ("asked", "bin/chromium")}
 

@@ -1,9 +1,8 @@
 //! Replies by a document and another file.
 ghost use Rattle.answers.specs.Judged.{documents, judged_rows};
 ghost use Rattle.net_core.specs.Limits.{max_document};
-ghost use Rattle.std.specs.Prelude.{◌≡◌, ◌≢◌, ◌+◌, ◌≤◌, length, IfErr, IfOk};
+ghost use Rattle.std.specs.Prelude.{◌≢◌, ◌≤◌, [], ◌∷◌, length, IfErr, IfOk};
 ghost use Rattle.tml_accept.specs.Acceptance.{Says};
-ghost use Rattle.tml_io.specs.Faults.{CallsFollow, HasRisen, RisesAtMost};
 ghost use Rattle.runs.specs.Replied.{IsReplyTo};
 ghost use Rattle.runs.specs.Roles.{IsRole, file_of};
 ghost use Rattle.runs.specs.TwoFiles.{CannotJudge};
@@ -60,7 +59,7 @@ fn document_of(alloc: Global, doc: &[u8]) -> Result<Document<'_>, Reply>
     }
 }
 
-/// The reply to what is asked of a document and of another file, by their names. The other file is read only where the
+/// The reply to what is asked of a document and of another file, by their names. The other file is read only if the
 /// document has no fault.
 pub fn reply_of_judged<A: JudgedQuery, I: Inputs>(
     alloc: Global,
@@ -72,16 +71,9 @@ pub fn reply_of_judged<A: JudgedQuery, I: Inputs>(
 ) -> Reply
     requires role { IsRole role }
     requires limit { role.limit ≤ A.limit }
-    ensures reply { IsReplyTo (judged_rows name.now (file_of role other.now) (A.says asked.now)) (I.files inputs.old) (I.sound inputs.old)
-        (I.given inputs.old) (I.given inputs.new) (I.faults inputs.old) (I.faults inputs.new)
-        (inputs.new ≡ inputs.old) (status_of result) (text_of result) }
+    ensures reply { IsReplyTo I.known (judged_rows name.now (file_of role other.now) (A.says asked.now)) (max_document ∷ role.limit ∷ [])
+        inputs.old inputs.new (status_of result) (text_of result) }
     ensures usage { status_of result ≢ Status.Usage }
-    ensures fault { status_of result ≡ Status.ReadFault → HasRisen (I.faults inputs.old) (I.faults inputs.new) }
-    ensures files { I.files inputs.new ≡ I.files inputs.old }
-    ensures stays_sound { I.sound inputs.new ≡ I.sound inputs.old }
-    ensures calls { RisesAtMost (max_document + 2 + (role.limit + 2)) (I.calls inputs.old) (I.calls inputs.new) }
-    ensures follows { CallsFollow 4 (I.given inputs.old) (I.given inputs.new) (I.calls inputs.old) (I.calls inputs.new) }
-    ensures never_falls { I.faults inputs.old ≤ I.faults inputs.new }
 {
     let doc = match read(alloc, inputs, DOC, name) {
         Ok(doc) => doc,

@@ -1,5 +1,5 @@
 -- A closed table that is kept by the timelines that fit a net.
-use Rattle.std.proofs.Common.{◌≡◌, ◌↔◌, ℕ, ◌<◌, ◌≤◌, Bool, true, false, List, arith}
+use Rattle.std.proofs.Common.{◌≡◌, ◌∙◌, ◌↔◌, ℕ, ◌<◌, ◌≤◌, Bool, true, false, List, arith}
 use Rattle.std.specs.List.{Contains}
 use Rattle.net_core.specs.Entailment.{Always, HasNoTimeline}
 use Rattle.net_core.specs.Fits.{EveryLink, Fits, FitsWith}
@@ -12,7 +12,7 @@ use Rattle.net_core.specs.declared.atom.Atom.{Atom}
 use Rattle.order_closure.specs.Tables.{IsClosed, Keeps, SatisfiesAll, Table, cell_at}
 use Rattle.order_closure.proofs.Central.{always_stands, order_says, weak_is}
 use Rattle.order_closure.proofs.Ranking.{counts_kept, strict_from, strict_says}
-use Rattle.clash.specs.Closures.{IsClosureOf, NoLink}
+use Rattle.clash.specs.Closures.{IsClosureOf, IsTableOf, NoLink}
 use Rattle.clash.specs.Minimal.{IsFirstClash, IsProvedClash, UpTo}
 use Rattle.clash.specs.declared.minimal.Clash.{Clash}
 use Rattle.net_orders.specs.Orders.{AreFixed}
@@ -93,3 +93,11 @@ none_fits net k first t fits = first.clashes t (fits_fewer net EveryLink (UpTo k
 -- and so where a clash is proved
 pub proved_excludes : (net : PlainNet) (clash : Clash) → IsProvedClash net clash → HasNoTimeline net
 proved_excludes net clash proved t fits = proved.minimal.clashes t (fits_fewer net EveryLink (Contains clash.cites) t (λ j lt cited. tt) fits)
+
+-- a table of orders that say what fits is one of what fits
+pub table_of_fitting : (net : PlainNet) (orders : List Atom) (n : ℕ) (table : Table) → n ≡ points net → ((t : Timeline) → SatisfiesAll orders t ↔ Fits net t)
+    → IsTableOf n (SatisfiesAll orders) table → IsTableOf (points net) (Fits net) table
+table_of_fitting net orders n table size said is = record {
+  size = is.size ∙ size;
+  keeps = λ t. (λ kept. (said t).0 ((is.keeps t).0 kept), λ fits. (is.keeps t).1 ((said t).1 fits));
+}

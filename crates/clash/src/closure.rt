@@ -2,18 +2,19 @@
 ghost use Rattle.clash.specs.Closures.{IsClosureOf, IsTableOf, IsUnlinked, ReportsClash};
 ghost use Rattle.net_orders.specs.Orders.{AreFixed};
 ghost use Rattle.clash.specs.declared.closure.CloseFault.TheVariants as faults;
+ghost use Rattle.net_core.specs.Entailment.{HasNoTimeline};
 ghost use Rattle.net_core.specs.Fits.{Fits};
 ghost use Rattle.net_core.specs.Limits.{max_points};
 ghost use Rattle.net_core.specs.Nets.{points};
 ghost use Rattle.net_core.specs.Relations.{Timeline};
 ghost use Rattle.order_closure.specs.Tables.{AreInRange, SatisfiesAll};
 ghost use Rattle.std.specs.List.{All};
-ghost use Rattle.std.specs.Prelude.{IfErr, IfOk, IfSome, length, ◌<◌, ◌≤◌, ◌≡◌};
+ghost use Rattle.std.specs.Prelude.{IfErr, IfNone, IfOk, IfSome, length, ◌<◌, ◌≤◌, ◌≡◌};
 
 use crate::minimal::{Clash, clash_soon, clash_up_to};
 use net_core::{Atom, Memory, Net};
 use net_orders::{
-    add_in_sequence, add_links, add_orders, all_orders, fixed_orders, has_strict_cycle,
+    add_in_sequence, add_links, add_orders, all_orders, fixed_orders, points_on_cycles,
     schedule_of, sequence_of,
 };
 use order_closure::Closed;
@@ -72,6 +73,30 @@ pub fn close(alloc: Global, net: &Net) -> Result<Closed, CloseFault>
     Ok(table)
 }
 
+/// The same for those who need no clash, which takes much longer to find than that there is one: None comes exactly when no
+/// timeline fits.
+///
+/// # Errors
+///
+/// Out of memory.
+pub fn close_if_fits(alloc: Global, net: &Net) -> Result<Option<Closed>, Memory>
+    ensures some { IfOk result (λ found. IfSome found (IsClosureOf net.now)) }
+    ensures few { IfOk result (λ found. IfSome found (λ table. table.points ≤ max_points)) }
+    ensures none { IfOk result (λ found. IfNone found (HasNoTimeline net.now)) }
+{
+    let points = 2 * net.intervals();
+    let fixed = fixed_orders(alloc, net)?;
+    let orders = all_orders(alloc, net, &fixed)?;
+    let sequence = sequence_of(alloc, points, &orders)?;
+    let schedule = schedule_of(alloc, points, &orders, &sequence)?;
+    let Some(table) = closure_of(alloc, points, &orders, &schedule.numbers)? else {
+        return Ok(None);
+    };
+    // it is closed
+    prove!(table.points() == points);
+    Ok(Some(table))
+}
+
 /// The table that is kept by exactly the timelines that fit the net, or a clash.
 fn table_of(alloc: Global, net: &Net) -> Result<Closed, CloseFault>
     ensures ok { IfOk result (IsTableOf (points net.now) (Fits net.now)) }
@@ -95,18 +120,20 @@ fn in_sequence(alloc: Global, net: &Net, fixed: &[Atom]) -> Result<Option<Closed
     let orders = all_orders(alloc, net, fixed)?;
     let sequence = sequence_of(alloc, points, &orders)?;
     let schedule = schedule_of(alloc, points, &orders, &sequence)?;
-    if has_strict_cycle(&orders, &schedule.components) {
-        let Some(clash) = clash_soon(alloc, net, fixed.len(), &orders, &sequence.numbers)? else {
-            return Ok(None);
-        };
-        return Err(CloseFault::Clash(clash));
+    let met = points_on_cycles(alloc, &orders, &schedule.components)?;
+    if met.is_empty() {
+        let table = closure_of(alloc, points, &orders, &schedule.numbers)?;
+        return Ok(table);
     }
-    let table = closure_of(alloc, points, &orders, &schedule.numbers)?;
-    Ok(table)
+    let found = clash_soon(alloc, net, &met, fixed.len(), &orders, &sequence.numbers)?;
+    match found {
+        Some(clash) => Err(CloseFault::Clash(clash)),
+        None => Ok(None),
+    }
 }
 
-/// The table of what is true of every timeline that satisfies some orders, added in a sequence. None comes if they deny
-/// one another.
+/// The table of what is true of every timeline that satisfies some orders, added in a sequence. None comes exactly when no
+/// timeline satisfies them.
 fn closure_of(
     alloc: Global,
     points: u32,
@@ -116,7 +143,8 @@ fn closure_of(
     requires few { points ≤ max_points }
     requires in_range { AreInRange points orders.now }
     requires sequence { All (λ k. k < length orders.now) sequence.now }
-    ensures { IfOk result (λ found. IfSome found (IsTableOf points (SatisfiesAll orders.now))) }
+    ensures some { IfOk result (λ found. IfSome found (IsTableOf points (SatisfiesAll orders.now))) }
+    ensures none { IfOk result (λ found. IfNone found ((t : Timeline) → SatisfiesAll orders.now t → ⊥)) }
 {
     let mut table = Closed::new(alloc, points)?;
     let Ok(()) = add_in_sequence(&mut table, orders, sequence) else {

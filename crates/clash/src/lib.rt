@@ -8,7 +8,7 @@ mod minimal;
 mod short_walk;
 mod spares;
 
-pub use closure::{CloseFault, close};
+pub use closure::{CloseFault, close, close_if_fits};
 pub use laws::{
     clashes_have_closed_walks, net_has_one_closure, net_is_answered, orders_are_answered,
     walks_can_be_short, walks_say_all,

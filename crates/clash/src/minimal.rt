@@ -1,6 +1,7 @@
 //! Minimal clashes.
 ghost use Rattle.clash.specs.Minimal.{IsFirstClash, IsProvedClash, IsMarkedWalk, IsShortClosed, IsSpared, UpTo};
 ghost use Rattle.net_orders.specs.Milestones.{AreWithMilestones};
+ghost use Rattle.net_orders.specs.Sequence.{ArePoints};
 ghost use Rattle.net_core.specs.Fits.{EveryLink};
 ghost use Rattle.net_core.specs.Walks.{IsClosedWalk, Kept};
 ghost use Rattle.std.specs.List.{Contains};
@@ -29,9 +30,9 @@ pub struct Clash {
     pub spares: List<Ranks>,
 }
 
-/// A clash with a closed walk that is looked for from the link with which ranks no longer settle soon: over all links, and if
-/// that fails over the links up to this one. `orders` are `fixed` orders and then those of the links. None comes seldom if links
-/// clash.
+/// A clash with a closed walk that is looked for from some of these points, over all links; or, if a link of it is not needed,
+/// from the link with which ranks no longer settle soon, over the links up to this one. `orders` are `fixed` orders and then those
+/// of the links. None comes seldom if links clash.
 ///
 /// # Errors
 ///
@@ -39,22 +40,24 @@ pub struct Clash {
 pub fn clash_soon(
     alloc: Global,
     net: &Net,
+    met: &[u32],
     fixed: usize,
     orders: &[Atom],
     sequence: &[usize],
 ) -> Result<Option<Clash>, Memory>
-    requires { AreInRange (points net.now) orders.now }
+    requires met { ArePoints (points net.now) met.now }
+    requires orders { AreInRange (points net.now) orders.now }
     ensures { IfOk result (λ found. IfSome found (IsProvedClash net.now)) }
 {
-    let Some(link) = first_unsettled(alloc, net, fixed, orders, sequence)? else {
-        return Ok(None);
-    };
     let few = orders_with_milestones(alloc, net)?;
-    if let Some(walk) = short_walk(alloc, net, link)? {
+    if let Some(walk) = short_walk(alloc, net, met)? {
         if let Some(clash) = clash_on_first(alloc, net, &few, walk)? {
             return Ok(Some(clash));
         }
     }
+    let Some(link) = first_unsettled(alloc, net, fixed, orders, sequence)? else {
+        return Ok(None);
+    };
     let keep = up_to(alloc, net, link)?;
     let Some(walk) = closed_walk_over(alloc, net, &keep, link)? else {
         return Ok(None);

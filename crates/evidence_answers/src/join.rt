@@ -3,8 +3,7 @@ ghost use Rattle.evidence_answers.specs.Join.{OfSecond, evidence, join_rows};
 ghost use Rattle.evidence_format.specs.Bundles.{AreBodies, AreClaims, IsTextOfEither};
 ghost use Rattle.evidence_format.specs.Evidence.{PlainEvidence};
 ghost use Rattle.net_core.specs.Limits.{max_evidence};
-ghost use Rattle.std.specs.Prelude.{◌≡◌, ◌≢◌, ◌+◌, ◌≤◌, length, IfErr, IfOk, List as ListOf};
-ghost use Rattle.tml_io.specs.Faults.{CallsFollow, HasRisen, RisesAtMost};
+ghost use Rattle.std.specs.Prelude.{◌≢◌, ◌≤◌, [], ◌∷◌, length, IfErr, IfOk, List as ListOf};
 ghost use Rattle.runs.specs.Replied.{IsReplyTo};
 ghost use Rattle.runs.specs.TwoFiles.{CannotJudge};
 ghost use Rattle.runs.specs.View.{finding_status, status_of, text_of};
@@ -17,18 +16,11 @@ use std::alloc::{AllocError, Global};
 use tml_io::Inputs;
 
 /// The reply to `join`: the text of version 2 of the claims of one file of evidence and, after them, those of another
-/// one. The second file is read only where the first one is evidence.
+/// one. The second file is read only if the first one is evidence.
 pub fn reply_of_join<I: Inputs>(alloc: Global, name: &str, other: &str, inputs: &mut I) -> Reply
-    ensures reply { IsReplyTo (join_rows name.now other.now) (I.files inputs.old) (I.sound inputs.old)
-        (I.given inputs.old) (I.given inputs.new) (I.faults inputs.old) (I.faults inputs.new)
-        (inputs.new ≡ inputs.old) (status_of result) (text_of result) }
+    ensures reply { IsReplyTo I.known (join_rows name.now other.now) (max_evidence ∷ max_evidence ∷ [])
+        inputs.old inputs.new (status_of result) (text_of result) }
     ensures usage { status_of result ≢ Status.Usage }
-    ensures fault { status_of result ≡ Status.ReadFault → HasRisen (I.faults inputs.old) (I.faults inputs.new) }
-    ensures files { I.files inputs.new ≡ I.files inputs.old }
-    ensures stays_sound { I.sound inputs.new ≡ I.sound inputs.old }
-    ensures calls { RisesAtMost (max_evidence + 2 + (max_evidence + 2)) (I.calls inputs.old) (I.calls inputs.new) }
-    ensures follows { CallsFollow 4 (I.given inputs.old) (I.given inputs.new) (I.calls inputs.old) (I.calls inputs.new) }
-    ensures never_falls { I.faults inputs.old ≤ I.faults inputs.new }
 {
     let first = match read(alloc, inputs, EVIDENCE, name) {
         Ok(first) => first,

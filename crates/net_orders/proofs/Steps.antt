@@ -7,7 +7,7 @@ use Rattle.net_core.specs.Relations.{Timeline}
 use Rattle.net_core.specs.declared.atom.Atom.{Atom}
 use Rattle.order_closure.specs.Tables.{Table}
 use Rattle.order_closure.specs.declared.table.WouldClash.{WouldClash}
-use Rattle.net_orders.specs.Steps.{AddsToTable, AddsOrClashes, AddsPart}
+use Rattle.net_orders.specs.Steps.{AddsToTable, AddsOrClashes, AddsPart, Excludes}
 
 -- something is true of all numbers below k
 abbrev pub Below : (ℕ → Timeline → Type 0) → ℕ → Timeline → Type 0
@@ -59,3 +59,7 @@ part_more IsTrue One start now next part so_far this = (
     λ kept holds. (this.1 t).1 ((so_far.1 t).1 kept holds, part t holds),
   ),
 )
+
+-- a part of something more clashes, and so does all of it
+pub part_clashes : (IsTrue One : Timeline → Type 0) (start now : Table) → ((t : Timeline) → IsTrue t → One t) → AddsPart IsTrue start now → Excludes One now → Excludes IsTrue start
+part_clashes IsTrue One start now part so_far none = λ t kept holds. none t ((so_far.1 t).1 kept holds) (part t holds)

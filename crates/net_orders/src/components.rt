@@ -8,18 +8,29 @@ use crate::sequence::Leaving;
 use net_core::{Atom, Memory};
 use std::alloc::Global;
 
-/// Whether a strict order leads from a point to one from which orders lead back, and so no timeline satisfies all orders.
-/// Nothing rests on the answer but which way a closure is looked for first.
-pub fn has_strict_cycle(orders: &[Atom], components: &[Option<usize>]) -> bool
+/// The points from which a strict order leads to one from which orders lead back, one for each such order, in the sequence of
+/// the orders: if there is any no timeline satisfies all orders. Nothing rests on the answer but which way a closure is looked
+/// for first, and from where closed walks are.
+///
+/// # Errors
+///
+/// Out of memory.
+pub fn points_on_cycles(
+    alloc: Global,
+    orders: &[Atom],
+    components: &[Option<usize>],
+) -> Result<Vec<u32>, Memory>
     requires { AreInRange (length components.now) orders.now }
+    ensures { IfOk result (λ found. ArePoints (length components.now) found.items) }
 {
+    let mut found = Vec::new(alloc);
     for order in orders {
         let (from, to) = (order.from as usize, order.to as usize);
         if order.strict && components[from].is_some() && components[from] == components[to] {
-            return true;
+            found.push(order.from)?;
         }
     }
-    false
+    Ok(found)
 }
 
 /// The orders the other way round.

@@ -1,9 +1,9 @@
 //! Adding orders that a table does not give yet.
-ghost use Rattle.net_orders.specs.Steps.{AddsOrClashes, AddsPart};
+ghost use Rattle.net_orders.specs.Steps.{AddsOrClashes, AddsPart, Excludes};
 ghost use Rattle.net_core.specs.Atoms.{Satisfies};
 ghost use Rattle.order_closure.specs.Tables.{AreInRange, SatisfiesAll};
 ghost use Rattle.std.specs.List.{All};
-ghost use Rattle.std.specs.Prelude.{OnOk, length, ◌<◌};
+ghost use Rattle.std.specs.Prelude.{IfErr, OnOk, length, ◌<◌};
 
 use net_core::Atom;
 use order_closure::{Closed, WouldClash};
@@ -31,7 +31,8 @@ pub fn add_orders(table: &mut Closed, orders: &[Atom]) -> Result<(), WouldClash>
     Ok(())
 }
 
-/// Adds those of some orders that have these numbers, in this sequence.
+/// Adds those of some orders that have these numbers, in this sequence. If one of them would clash, no timeline that the table
+/// allows satisfies all orders.
 pub fn add_in_sequence(
     table: &mut Closed,
     orders: &[Atom],
@@ -39,7 +40,8 @@ pub fn add_in_sequence(
 ) -> Result<(), WouldClash>
     requires in_range { AreInRange table.old.points orders.now }
     requires sequence { All (λ k. k < length orders.now) sequence.now }
-    ensures { OnOk result (AddsPart (SatisfiesAll orders.now) table.old table.new) }
+    ensures ok { OnOk result (AddsPart (SatisfiesAll orders.now) table.old table.new) }
+    ensures err { IfErr result (λ _. Excludes (SatisfiesAll orders.now) table.old) }
 {
     for number in sequence {
         insert(table, orders[*number])?;

@@ -15,7 +15,7 @@ mod sequence;
 mod settling;
 mod unsettled;
 
-pub use components::has_strict_cycle;
+pub use components::points_on_cycles;
 pub use insert::{add_in_sequence, add_orders};
 pub use least::least_timeline;
 pub use links::{FirstClash, add_links, atoms_of_link, nth_order};

@@ -4,5 +4,6 @@ pub mod HowItEnds
 pub mod Missing
 pub mod OneFile
 pub mod OneReply
+pub mod Replied
 pub mod TwoFiles
 pub mod Usage

@@ -2,18 +2,18 @@
 use Rattle.std.proofs.Common.{◌≡◌, ◌⊎◌, ◌≤◌, ◌<◌, ℕ, List, [], ◌∷◌, false, length, refl, sym, subst, ◌∙◌, Option, Some, None, IsSome, inl, inr, arith}
 use Rattle.tml_io.specs.Files.{Files, IsThere, held}
 use Rattle.runs.specs.declared.status.Status.{Status}
-use Rattle.runs.specs.declared.status.Status.TheVariants.{TooLong}
+use Rattle.runs.specs.declared.status.Status.TheVariants.{ReadFault, TooLong}
 use Rattle.runs.specs.EveryReply.{HasNext}
 use Rattle.runs.specs.OneFile.{Answers}
 use Rattle.runs.specs.OneReply.{Agree, HasOneText, is_aborted}
-use Rattle.runs.specs.Reading.{ReadsWhole, Reached, AreFirstContents, total_length}
+use Rattle.runs.specs.Reading.{ReadsWhole, Reached, AreFirstContents}
 use Rattle.runs.specs.Replies.{Replies}
 use Rattle.runs.specs.Rows.{File, NeverFree, Next, Rows, answers, reads}
 use Rattle.runs.specs.TwoFiles.{CannotJudge, IsNotRefused, IsRefusedFirst, Judging, after_first, of_both, of_two_files}
 use Rattle.runs.proofs.Answering.{AreAnswered, IsAnsweredAfter, IsDecisive}
-use Rattle.runs.proofs.HowItEnds.{answered}
 use Rattle.runs.proofs.OneFile.{freer, the_one}
 use Rattle.runs.proofs.OneReply.{EndsWhole, ends_whole, not_both}
+use Rattle.runs.proofs.Replied.{EndsAfter}
 
 module _ {C : Type 0} (judging : Judging C) (first second : File) (Of : C → Answers) (IsFree : C → List ℕ → Status → Type 0) (is : IsDecisive first.limit judging) (are : IsAnsweredAfter judging first.limit second.limit Of IsFree) where
   agree : (contents : List (List ℕ)) (next other : Next) → of_two_files judging first second Of contents next → of_two_files judging first second Of contents other → Agree next other
@@ -75,12 +75,11 @@ both_answered_once {C} judging first second Of is are =
     none contents status free = free
 
 -- the first file is refused after it was read, or out of memory
-pub refused_or_not : {C : Type 0} (judging : Judging C) (known : Option Files) (rows : Rows) (one : List ℕ) (status : Status) (text : List ℕ) (taken : ℕ)
-    → AreFirstContents known rows (one ∷ []) → (judging.IsRefused one status text → rows (one ∷ []) (answers status text)) → CannotJudge judging one status text → taken ≡ total_length (one ∷ [])
-    → Replies known rows status text taken
-refused_or_not judging known rows one status text taken reading next (inl h) e = answered known rows (one ∷ []) status text taken reading (next h) e
-refused_or_not judging known rows one status text taken reading next (inr h) e =
-    record { contents = one ∷ []; reading = reading; part = 0; ends = inr (inr (h.0, h.1, refl)); bytes = omega arith }
+pub ends_refused : {C : Type 0} (judging : Judging C) (rows : Rows) (one : List ℕ) (status : Status) (text : List ℕ)
+    → (judging.IsRefused one status text → rows (one ∷ []) (answers status text)) → (judging.IsRefused one status text → status ≡ ReadFault → ⊥)
+    → CannotJudge judging one status text → EndsAfter rows (one ∷ []) status text
+ends_refused judging rows one status text next no_fault (inl h) = record { ends = inl (next h); no_fault = no_fault h }
+ends_refused judging rows one status text next no_fault (inr h) = record { ends = inr h; no_fault = λ e. cc (sym e ∙ h.0) }
 
 -- A reply that is not aborted is by the first file, where that is short enough: it is refused, or some second file is answered. Or a file is too long.
 pub judged_or_long : {C : Type 0} (judging : Judging C) (files : Files) (first second : File) (Of : C → Answers) (status : Status) (text : List ℕ) (taken : ℕ) → is_aborted status ≡ false

@@ -1,6 +1,6 @@
 -- Words that have no form have one answer, and no file is read for it.
-use Rattle.std.proofs.Common.{◌≡◌, ◌<◌, ℕ, Bool, false, List, [], ◌∷◌, length, refl, sym, ◌∙◌, Option, arith}
-use Rattle.tml_io.specs.Files.{Files}
+use Rattle.std.proofs.Common.{◌≡◌, ◌<◌, ℕ, Bool, false, List, [], ◌∷◌, length, refl, sym, ◌∙◌, inl}
+use Rattle.tml_io.specs.Known.{KnownInputs}
 use Rattle.runs.specs.EveryReply.{HasNext}
 use Rattle.runs.specs.OneReply.{Agree, HasOneText, is_aborted}
 use Rattle.runs.specs.Replied.{IsReplyTo}
@@ -9,7 +9,7 @@ use Rattle.runs.specs.Words.{usage_rows}
 use Rattle.runs.specs.declared.status.Status.{Status}
 use Rattle.runs.specs.declared.status.Status.TheVariants.{Usage}
 use Rattle.runs.proofs.Answering.{AreAnswered}
-use Rattle.runs.proofs.HowItEnds.{answered}
+use Rattle.runs.proofs.Replied.{by_none}
 
 module _ (usage : List ℕ) where
   agree : (contents : List (List ℕ)) (next other : Next) → usage_rows usage contents next → usage_rows usage contents other → Agree next other
@@ -37,10 +37,5 @@ module _ (usage : List ℕ) where
   usage_answered = record { one_next = agree; next = every_next; most = 0; few = few; whole = whole; one_text = one_text }
 
   -- the usage text is the reply
-  pub usage_replied : (known : Option Files) (sound : Bool) (given faults : ℕ) (same : Type 0) (text : List ℕ) → text ≡ usage → same
-      → IsReplyTo (usage_rows usage) known sound given given faults faults same Usage text
-  usage_replied known sound given faults same text is unchanged = record {
-    replies = (0, answered known (usage_rows usage) [] Usage text 0 tt is (omega arith), omega arith);
-    no_fault = λ sound there. refl;
-    untouched = λ none. unchanged;
-  }
+  pub usage_replied : {S : Type 0} (known : S → KnownInputs) (now : S) (text : List ℕ) → text ≡ usage → IsReplyTo known (usage_rows usage) [] now now Usage text
+  usage_replied known now text is = by_none known (usage_rows usage) now Usage text (record { ends = inl is; no_fault = λ e. cc })

@@ -1,3 +1,4 @@
+pub mod Answered
 pub mod EveryReply
 pub mod Missing
 pub mod OneFile

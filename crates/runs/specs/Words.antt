@@ -1,5 +1,5 @@
--- The words of a run: as bytes, and where they have no form; and the calls that files take. Nothing here knows what forms there are.
-use Rattle.std.specs.Prelude.{◌≡◌, ℕ, ◌+◌, List, [], ◌∷◌, map, String, string_bytes}
+-- The words of a run: as bytes, and if they have no form. Nothing here knows what forms there are.
+use Rattle.std.specs.Prelude.{◌≡◌, ℕ, List, [], map, String, string_bytes}
 use Rattle.std.specs.declared.alloc.Global.{Global}
 use Rattle.runs.specs.Rows.{Rows, answers}
 use Rattle.runs.specs.declared.status.Status.TheVariants.{Usage}
@@ -12,8 +12,3 @@ texts_of words = map (λ (w : String Global). string_bytes w) words
 abbrev pub usage_rows : List ℕ → Rows
 usage_rows usage [] (answers Usage text) = text ≡ usage
 usage_rows usage contents next = ⊥
-
--- how many calls reading files of these lengths takes at most: each is started, and read byte by byte up to its end
-abbrev pub calls_for : List ℕ → ℕ
-calls_for [] = 0
-calls_for (limit ∷ rest) = limit + 2 + calls_for rest

@@ -3,7 +3,9 @@
 #![tactic(auto)]
 
 mod answer;
+mod laws;
 mod one_file;
+mod process;
 mod program;
 mod reading;
 mod reply;
@@ -11,8 +13,12 @@ mod role;
 mod status;
 
 pub use answer::{Answer, Finding};
+pub use laws::{
+    every_question_is_answered, missing_files_are_faults, one_reply, one_status, one_text,
+};
 pub use one_file::{FileQuery, reply_of_file};
-pub use program::run_program;
+pub use process::run_program;
+pub use program::{Program, run};
 pub use reading::read;
 pub use reply::{Reply, deliver};
 pub use role::Role;

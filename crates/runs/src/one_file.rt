@@ -1,6 +1,5 @@
 //! Replies by the contents of one file.
-ghost use Rattle.std.specs.Prelude.{◌≡◌, ◌≢◌, ◌+◌, ◌≤◌, length, IfOk};
-ghost use Rattle.tml_io.specs.Faults.{CallsFollow, HasRisen, RisesAtMost};
+ghost use Rattle.std.specs.Prelude.{◌≢◌, ◌≤◌, [], ◌∷◌, length, IfOk};
 ghost use Rattle.runs.specs.OneFile.{of_one_file};
 ghost use Rattle.runs.specs.Replied.{IsReplyTo};
 ghost use Rattle.runs.specs.Roles.{IsRole, file_of};
@@ -41,16 +40,9 @@ pub fn reply_of_file<A: FileQuery, I: Inputs>(
 ) -> Reply
     requires role { IsRole role }
     requires limit { role.limit ≤ A.limit }
-    ensures reply { IsReplyTo (of_one_file (file_of role name.now) (A.says asked.now)) (I.files inputs.old) (I.sound inputs.old)
-        (I.given inputs.old) (I.given inputs.new) (I.faults inputs.old) (I.faults inputs.new)
-        (inputs.new ≡ inputs.old) (status_of result) (text_of result) }
+    ensures reply { IsReplyTo I.known (of_one_file (file_of role name.now) (A.says asked.now)) (role.limit ∷ [])
+        inputs.old inputs.new (status_of result) (text_of result) }
     ensures usage { status_of result ≢ Status.Usage }
-    ensures fault { status_of result ≡ Status.ReadFault → HasRisen (I.faults inputs.old) (I.faults inputs.new) }
-    ensures files { I.files inputs.new ≡ I.files inputs.old }
-    ensures stays_sound { I.sound inputs.new ≡ I.sound inputs.old }
-    ensures calls { RisesAtMost (role.limit + 2) (I.calls inputs.old) (I.calls inputs.new) }
-    ensures follows { CallsFollow 2 (I.given inputs.old) (I.given inputs.new) (I.calls inputs.old) (I.calls inputs.new) }
-    ensures never_falls { I.faults inputs.old ≤ I.faults inputs.new }
 {
     match read(alloc, inputs, role, name) {
         Ok(bytes) => Reply::from_answer(asked.answer(alloc, bytes.as_slice())),

@@ -1,10 +1,6 @@
 //! Reading a file for a command.
-ghost use Rattle.std.specs.Prelude.{true, ◌≡◌, ◌+◌, ◌≤◌};
-ghost use Rattle.std.specs.declared.result.Result.{Result};
-ghost use Rattle.tml_io.specs.Faults.{CallsFollow, HasRisen, RisesAtMost};
-ghost use Rattle.tml_io.specs.Files.{IsThere, CountsTaken};
+ghost use Rattle.runs.specs.Replied.{IsRead};
 ghost use Rattle.runs.specs.Roles.{IsRole, file_of};
-ghost use Rattle.runs.specs.View.{HasReadFile};
 
 use crate::reply::Reply;
 use crate::role::Role;
@@ -23,16 +19,7 @@ pub fn read<I: Inputs>(
     name: &str,
 ) -> Result<List<u8>, Reply>
     requires { IsRole role }
-    ensures gives { CountsTaken (I.given inputs.old) (I.given inputs.new)
-        (HasReadFile (I.files inputs.old) (file_of role name.now) result) }
-    ensures fault { result ≡ Result.Err Reply.ReadFault → HasRisen (I.faults inputs.old) (I.faults inputs.new) }
-    ensures no_fault { I.sound inputs.old ≡ true → IsThere (I.files inputs.old) name.now
-        → I.faults inputs.new ≡ I.faults inputs.old }
-    ensures files { I.files inputs.new ≡ I.files inputs.old }
-    ensures stays_sound { I.sound inputs.new ≡ I.sound inputs.old }
-    ensures calls { RisesAtMost (role.limit + 2) (I.calls inputs.old) (I.calls inputs.new) }
-    ensures follows { CallsFollow 2 (I.given inputs.old) (I.given inputs.new) (I.calls inputs.old) (I.calls inputs.new) }
-    ensures never_falls { I.faults inputs.old ≤ I.faults inputs.new }
+    ensures { IsRead (file_of role name.now) result (I.known inputs.old) (I.known inputs.new) }
 {
     match read_all(alloc, inputs, name, role.limit) {
         Ok(bytes) => Ok(bytes),

@@ -1,10 +1,10 @@
 //! The reply to a command: the answer, or why there is none; and its writing.
-ghost use Rattle.std.specs.Prelude.{◌≡◌, ◌≤◌, length, OnOk, OnErr};
+ghost use Rattle.std.specs.Prelude.{◌≡◌, length, OnOk, OnErr};
 ghost use Rattle.std.specs.Io.KnownBytes.{Appends};
 ghost use Rattle.tml_io.specs.Faults.{HasCause, RisesAtMost};
 ghost use Rattle.tml_io.specs.Room.{FaultsOnlyWhenFull};
 ghost use Rattle.tml_io.specs.Whole.{WritesPrefix};
-ghost use Rattle.runs.specs.Outcome.{Written, before_writing};
+ghost use Rattle.runs.specs.Outcome.{IsDelivered, before_writing};
 ghost use Rattle.runs.specs.View.{status_of, text_of, reply_of};
 
 use crate::Status;
@@ -58,12 +58,12 @@ impl Reply {
 
     /// Writes the text. Out of memory there is none, and the sink is left alone.
     fn write_text<S: Sink>(&self, sink: &mut S) -> Result<(), WriteFault>
-        ensures ok { OnOk result (Appends (S.written sink.old) (S.written sink.new) (text_of self.now)) }
-        ensures err { OnErr result (WritesPrefix (S.written sink.old) (S.written sink.new) (text_of self.now)) }
-        ensures calls { RisesAtMost (length (text_of self.now)) (S.calls sink.old) (S.calls sink.new) }
-        ensures cause { HasCause (S.faults sink.old) (S.faults sink.new) result }
+        ensures ok { OnOk result (Appends (S.known sink.old).written (S.known sink.new).written (text_of self.now)) }
+        ensures err { OnErr result (WritesPrefix (S.known sink.old).written (S.known sink.new).written (text_of self.now)) }
+        ensures calls { RisesAtMost (length (text_of self.now)) (S.known sink.old).calls (S.known sink.new).calls }
+        ensures cause { HasCause (S.known sink.old).faults (S.known sink.new).faults result }
         ensures untouched { status_of self.now ≡ Status.NoMemory → sink.new ≡ sink.old }
-        ensures no_fault { FaultsOnlyWhenFull (S.room sink.old) (S.room sink.new) (S.faults sink.old) (S.faults sink.new) }
+        ensures no_fault { FaultsOnlyWhenFull (S.known sink.old).room (S.known sink.new).room (S.known sink.old).faults (S.known sink.new).faults }
     {
         match self {
             Reply::Answered(answer) => write_all(sink, answer.text.as_slice()),
@@ -75,16 +75,11 @@ impl Reply {
     }
 }
 
-/// Writes the text of a reply, and answers the status of the run. A fault of the sink changes the status only where it
+/// Writes the text of a reply, and answers the status of the run. A fault of the sink changes the status only if it
 /// was Done.
 pub fn deliver<S: Sink>(sink: &mut S, reply: Reply) -> Status
     ensures status { before_writing result ≡ status_of reply }
-    ensures written { Written result (text_of reply)
-        (S.written sink.old) (S.written sink.new) (S.faults sink.old) (S.faults sink.new) }
-    ensures calls { RisesAtMost (length (text_of reply)) (S.calls sink.old) (S.calls sink.new) }
-    ensures no_memory { result ≡ Status.NoMemory → sink.new ≡ sink.old }
-    ensures never_falls { S.faults sink.old ≤ S.faults sink.new }
-    ensures no_fault { FaultsOnlyWhenFull (S.room sink.old) (S.room sink.new) (S.faults sink.old) (S.faults sink.new) }
+    ensures delivered { IsDelivered S.known (text_of reply) sink.old sink.new result }
 {
     let status = reply.status();
     let written = reply.write_text(sink);

@@ -4,7 +4,7 @@ ghost use Rattle.std.specs.Prelude.{◌≡◌, codes, IfOk, Some};
 
 use crate::counts::push_of;
 use answers::{JudgedQuery, refusal};
-use clash::{CloseFault, close};
+use clash::close_if_fits;
 use net_answers::{NetQuery, answer_of_net};
 use net_build::net_of;
 use net_core::{Memory, Net};
@@ -65,11 +65,11 @@ impl NetQuery for Against<'_, '_> {
         closure: &Closed,
     ) -> Result<Answer, AllocError> {
         let key_net = net_of(alloc, self.key)?;
-        let key_closure = match close(alloc, &key_net) {
-            Ok(closure) => closure,
-            Err(CloseFault::Clash(_)) => return key_clash(alloc),
-            Err(CloseFault::Memory) => return Err(AllocError),
+        let Some(key_closure) = close_if_fits(alloc, &key_net)? else {
+            return key_clash(alloc);
         };
+        // It is closed, so some timeline fits.
+        prove!(key_closure.points() == 2 * key_net.intervals());
         let scores = score(
             alloc,
             document,

@@ -18,8 +18,8 @@ pub struct TwoFiles<'c> {
 impl<'c> TwoFiles<'c> {
     /// Files of which none is started. It copies nothing and takes no memory.
     pub fn new(first: &'c [u8], second: &'c [u8]) -> TwoFiles<'c>
-        ensures files { ⟦<TwoFiles<'c> as Inputs>⟧.files result ≡ Some (two_files first.now second.now) }
-        ensures faults { ⟦<TwoFiles<'c> as Inputs>⟧.faults result ≡ 0 }
+        ensures files { (⟦<TwoFiles<'c> as Inputs>⟧.known result).files ≡ Some (two_files first.now second.now) }
+        ensures faults { (⟦<TwoFiles<'c> as Inputs>⟧.known result).faults ≡ 0 }
     {
         TwoFiles {
             first,
@@ -35,17 +35,14 @@ impl Inputs for TwoFiles<'_> {
     ghost use Rattle.std.specs.Prelude.{Some, true, refl};
     ghost use Rattle.tml_c.specs.Given.{two_files};
 
-    ghost files = { λ s. Some (two_files s.first.now s.second.now) };
-
-    ghost left = { λ s. Some s.left.now };
-
-    ghost faults = { λ s. s.faults };
-
-    ghost given = { λ s. s.given };
-
-    ghost calls = { λ _. 0 };
-
-    ghost sound = { λ _. true };
+    ghost known = { λ s. record {
+      files = Some (two_files s.first.now s.second.now);
+      left = Some s.left.now;
+      given = s.given;
+      calls = 0;
+      faults = s.faults;
+      sound = true;
+    } };
 
     ghost files_known = { λ s h. refl };
 

@@ -4,7 +4,7 @@ ghost use Rattle.std.specs.Prelude.{◌≡◌, ◌≢◌, [], Some, MatchOption}
 use std::alloc::Global;
 use tml_io::{Failed, Sink};
 
-/// A sink that keeps what is written. A write fails where there is no memory for it, and no other one does.
+/// A sink that keeps what is written. A write fails if there is no memory for it, and no other one does.
 #[derive(Drop)]
 pub struct Growing {
     text: Vec<u8>,
@@ -14,8 +14,8 @@ pub struct Growing {
 impl Growing {
     /// An empty sink. It takes no memory.
     pub fn new(alloc: Global) -> Growing
-        ensures written { ⟦<Growing as Sink>⟧.written result ≡ Some [] }
-        ensures faults { ⟦<Growing as Sink>⟧.faults result ≡ 0 }
+        ensures written { (⟦<Growing as Sink>⟧.known result).written ≡ Some [] }
+        ensures faults { (⟦<Growing as Sink>⟧.known result).faults ≡ 0 }
     {
         Growing {
             text: Vec::new(alloc),
@@ -25,8 +25,8 @@ impl Growing {
 
     /// What was written, unless there was no memory for some of it.
     pub fn into_text(self) -> Option<Vec<u8>>
-        ensures { MatchOption result (⟦<Growing as Sink>⟧.faults self ≢ 0)
-            (λ text. (⟦<Growing as Sink>⟧.faults self ≡ 0) × (⟦<Growing as Sink>⟧.written self ≡ Some text.items)) }
+        ensures { MatchOption result ((⟦<Growing as Sink>⟧.known self).faults ≢ 0)
+            (λ text. ((⟦<Growing as Sink>⟧.known self).faults ≡ 0) × ((⟦<Growing as Sink>⟧.known self).written ≡ Some text.items)) }
     {
         if self.faults == 0 {
             Some(self.text)
@@ -39,13 +39,7 @@ impl Growing {
 impl Sink for Growing {
     ghost use Rattle.std.specs.Prelude.{Some, None};
 
-    ghost written = { λ s. Some s.text.items };
-
-    ghost faults = { λ s. s.faults };
-
-    ghost calls = { λ _. 0 };
-
-    ghost room = { λ _. None };
+    ghost known = { λ s. record { written = Some s.text.items; room = None; calls = 0; faults = s.faults } };
 
     fn write(&mut self, piece: &[u8]) -> Result<usize, Failed> {
         match self.text.extend_from_slice(piece) {

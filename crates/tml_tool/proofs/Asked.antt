@@ -5,7 +5,7 @@ use Rattle.std.proofs.lemmas.Bool.{eq-eqb}
 use Rattle.std.proofs.lemmas.Bool.Decides.{eqb_tells}
 use Rattle.std.proofs.lemmas.List.{length-map}
 use Rattle.named.specs.Texts.{named_of}
-use Rattle.tml_io.specs.Files.{Files}
+use Rattle.tml_io.specs.Known.{KnownInputs}
 use Rattle.runs.specs.declared.status.Status.{Status}
 use Rattle.runs.specs.declared.status.Status.TheVariants.{Usage}
 use Rattle.runs.specs.Replied.{IsReplyTo}
@@ -13,7 +13,7 @@ use Rattle.runs.specs.Words.{texts_of}
 use Rattle.runs.proofs.Usage.{usage_replied as replied_usage}
 use Rattle.tml_tool.specs.declared.commands.Form.{Form}
 use Rattle.tml_tool.specs.declared.commands.Form.TheVariants.{Spans}
-use Rattle.tml_tool.specs.Commands.{all_forms, arguments_of, form_of, rows_of, taken_form, takes, usage, word_of}
+use Rattle.tml_tool.specs.Commands.{all_forms, arguments_of, form_of, limits_of, rows_of, taken_form, takes, usage, word_of}
 use Rattle.tml_tool.specs.Forms.{with_arguments}
 
 pub by_test : (b : Bool) (asked : Option (Form × List (List ℕ))) → b ≡ true → (if b then asked else None) ≡ asked
@@ -46,10 +46,11 @@ module _ (words arguments : List (String Global)) (word : String Global) (bytes 
   pub no_count : (form : Form) → Some form ≡ named_of word_of all_forms bytes → length arguments ≢ length (arguments_of form) → form_of (texts_of words) ≡ None
   no_count form e n = is_form (Some form) e ∙ by_no_test (length (texts_of arguments) == length (arguments_of form)) (taken_form form (texts_of arguments)) (no_true _ _ (λ same. n (sym count ∙ same)))
 
--- a reply belongs to the rows of the form that some words have
-pub along : (known : Option Files) (sound : Bool) (given now faults risen : ℕ) (same : Type 0) (form other : Option (Form × List (List ℕ))) (status : Status) (text : List ℕ) → form ≡ other → IsReplyTo (rows_of other) known sound given now faults risen same status text
-    → IsReplyTo (rows_of form) known sound given now faults risen same status text
-along known sound given now faults risen same form other status text e h = subst (λ (f : Option (Form × List (List ℕ))). IsReplyTo (rows_of f) known sound given now faults risen same status text) (sym e) h
+module _ {S : Type 0} (known : S → KnownInputs) where
+  -- a reply belongs to the rows of the form that some words have
+  pub along : (form other : Option (Form × List (List ℕ))) (old new : S) (status : Status) (text : List ℕ) → form ≡ other
+      → IsReplyTo known (rows_of other) (limits_of other) old new status text → IsReplyTo known (rows_of form) (limits_of form) old new status text
+  along form other old new status text e h = subst (λ (f : Option (Form × List (List ℕ))). IsReplyTo known (rows_of f) (limits_of f) old new status text) (sym e) h
 
-pub usage_replied : (known : Option Files) (sound : Bool) (given faults : ℕ) (same : Type 0) (form : Option (Form × List (List ℕ))) (text : List ℕ) → form ≡ None → text ≡ usage → same → IsReplyTo (rows_of form) known sound given given faults faults same Usage text
-usage_replied known sound given faults same form text e is unchanged = along known sound given given faults faults same form None Usage text e (replied_usage usage known sound given faults same text is unchanged)
+  pub usage_replied : (form : Option (Form × List (List ℕ))) (now : S) (text : List ℕ) → form ≡ None → text ≡ usage → IsReplyTo known (rows_of form) (limits_of form) now now Usage text
+  usage_replied form now text e is = along form None now now Usage text e (replied_usage usage known now text is)

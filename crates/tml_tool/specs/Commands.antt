@@ -1,6 +1,5 @@
 -- The table of commands: of each form its word, its arguments and its rows. A further command adds a line to each.
-use Rattle.std.specs.Prelude.{Bool, true, ℕ, List, [], ◌∷◌, codes, length, String, None, Some, is_some}
-use Rattle.std.specs.declared.alloc.Global.{Global}
+use Rattle.std.specs.Prelude.{Bool, true, ℕ, List, [], ◌∷◌, codes, None, Some, is_some}
 use Rattle.std.specs.declared.option.Option.{Option}
 use Rattle.named.specs.Texts.{named_of}
 use Rattle.net_core.specs.Limits.{max_document, max_evidence}
@@ -23,7 +22,7 @@ use Rattle.score_answers.specs.Reduce.{reduce_rows}
 use Rattle.score_answers.specs.Score.{ScoreIsFree, score_rows}
 use Rattle.seconds_answers.specs.Seconds.{SecondsAreFree, seconds_rows}
 use Rattle.runs.specs.Rows.{Freedom, NeverFree, Rows}
-use Rattle.runs.specs.Words.{calls_for, texts_of, usage_rows}
+use Rattle.runs.specs.Words.{usage_rows}
 use Rattle.tml_tool.specs.Forms.{taken_by, usage_of, with_arguments}
 use Rattle.tml_tool.specs.declared.commands.Form.{Form}
 use Rattle.tml_tool.specs.declared.commands.Form.TheVariants.{Spans, Check, Dates, Solve, Ask, Relations, Canon, Verify, Drill, Renew, Join, Possible, Matrix, Reduce, Score, Seconds, Confirm}
@@ -127,15 +126,10 @@ abbrev pub form_of : List (List ℕ) → Option (Form × List (List ℕ))
 form_of [] = Some (Spans, codes "-" ∷ [])
 form_of (word ∷ arguments) = with_arguments arguments_of takes arguments (named_of word_of all_forms word)
 
--- How many calls the files of a form take at most, and none without a form.
-abbrev pub most_calls : Option (Form × List (List ℕ)) → ℕ
-most_calls None = 0
-most_calls (Some asked) = calls_for (file_limits asked.0)
-
--- How many files a form reads at most, and none without a form.
-abbrev pub most_files : Option (Form × List (List ℕ)) → ℕ
-most_files None = 0
-most_files (Some asked) = length (file_limits asked.0)
+-- how long the files of a form may be, and none without a form
+abbrev pub limits_of : Option (Form × List (List ℕ)) → List ℕ
+limits_of None = []
+limits_of (Some asked) = file_limits asked.0
 
 -- the rows of a form with its arguments, or of words that have no form
 abbrev pub rows_of : Option (Form × List (List ℕ)) → Rows
@@ -145,7 +139,3 @@ rows_of (Some asked) = rows_with asked.0 asked.1
 abbrev pub is_free : Option (Form × List (List ℕ)) → Freedom
 is_free None = NeverFree
 is_free (Some asked) = is_free_with asked.0 asked.1
-
--- the rows of the words of a run
-abbrev pub rows_of_words : List (String Global) → Rows
-rows_of_words words = rows_of (form_of (texts_of words))

@@ -1,12 +1,11 @@
 //! The table of commands: of each form of words its word, its arguments and its reply. A further command adds a line to
 //! each.
 ghost use Rattle.std.proofs.Common.{rules};
-ghost use Rattle.std.specs.Prelude.{◌≡◌, ◌≤◌, ◌<◌, ◌↔◌, ◌*◌, length, None};
-ghost use Rattle.tml_io.specs.Faults.{CallsFollow, HasRisen, RisesAtMost};
+ghost use Rattle.std.specs.Prelude.{◌≡◌, ◌<◌, ◌↔◌, length, None};
 ghost use Rattle.runs.specs.Replied.{IsReplyTo};
 ghost use Rattle.runs.specs.View.{status_of, text_of};
 ghost use Rattle.runs.specs.Words.{texts_of};
-ghost use Rattle.tml_tool.specs.Commands.{arguments_of, most_calls, most_files, rows_of, taken_form, usage};
+ghost use Rattle.tml_tool.specs.Commands.{arguments_of, limits_of, rows_of, taken_form, usage};
 ghost use Rattle.tml_tool.specs.Forms.{argument};
 
 use answers::{DOC, reply_of_document, reply_of_judged};
@@ -153,7 +152,7 @@ tml confirm DOC SECONDS
 "
 }
 
-/// The reply to a form with this number of arguments: the answer, or the usage text where the form does not take them.
+/// The reply to a form with this number of arguments: the answer, or the usage text if the form does not take them.
 pub fn reply_with<I: Inputs>(
     alloc: Global,
     form: Form,
@@ -161,16 +160,9 @@ pub fn reply_with<I: Inputs>(
     inputs: &mut I,
 ) -> Reply
     requires { length arguments.now ≡ length (arguments_of form) }
-    ensures reply { IsReplyTo (rows_of (taken_form form (texts_of arguments.now))) (I.files inputs.old) (I.sound inputs.old)
-        (I.given inputs.old) (I.given inputs.new) (I.faults inputs.old) (I.faults inputs.new)
-        (inputs.new ≡ inputs.old) (status_of result) (text_of result) }
+    ensures reply { let asked = taken_form form (texts_of arguments.now) in
+        IsReplyTo I.known (rows_of asked) (limits_of asked) inputs.old inputs.new (status_of result) (text_of result) }
     ensures usage { (status_of result ≡ Status.Usage) ↔ (taken_form form (texts_of arguments.now) ≡ None) }
-    ensures fault { status_of result ≡ Status.ReadFault → HasRisen (I.faults inputs.old) (I.faults inputs.new) }
-    ensures files { I.files inputs.new ≡ I.files inputs.old }
-    ensures stays_sound { I.sound inputs.new ≡ I.sound inputs.old }
-    ensures calls { RisesAtMost (most_calls (taken_form form (texts_of arguments.now))) (I.calls inputs.old) (I.calls inputs.new) }
-    ensures follows { CallsFollow (2 * most_files (taken_form form (texts_of arguments.now))) (I.given inputs.old) (I.given inputs.new) (I.calls inputs.old) (I.calls inputs.new) }
-    ensures never_falls { I.faults inputs.old ≤ I.faults inputs.new }
 {
     let first = word(arguments, 0);
     match form {

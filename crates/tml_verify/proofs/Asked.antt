@@ -1,10 +1,10 @@
 -- What some words ask.
-use Rattle.std.proofs.Common.{◌≡◌, ◌≢◌, ℕ, Bool, List, [], ◌∷◌, get_or, length, refl, sym, subst, Option, None, Some, String, Global, string_bytes, arith}
-use Rattle.tml_io.specs.Files.{Files}
+use Rattle.std.proofs.Common.{◌≡◌, ◌≢◌, ℕ, List, [], ◌∷◌, get_or, length, refl, sym, subst, Option, None, Some, String, Global, string_bytes, arith}
+use Rattle.tml_io.specs.Known.{KnownInputs}
 use Rattle.runs.specs.Replied.{IsReplyTo}
 use Rattle.runs.specs.Words.{texts_of}
 use Rattle.runs.specs.declared.status.Status.{Status}
-use Rattle.tml_verify.specs.Words.{asked_of, rows_of}
+use Rattle.tml_verify.specs.Words.{asked_of, limits_of, rows_of}
 
 -- two words are the names of a document and another file
 pub two_words : (words : List (String Global)) (doc other : String Global) → length words ≡ 2 → doc ≡ get_or words 0 doc → other ≡ get_or words 1 other
@@ -22,6 +22,6 @@ no_form (a ∷ b ∷ []) count = absurd (count refl)
 no_form (a ∷ b ∷ c ∷ more) count = refl
 
 -- a reply belongs to the rows of what some words ask
-pub along : (known : Option Files) (sound : Bool) (given now faults risen : ℕ) (same : Type 0) (asked other : Option (List ℕ × List ℕ)) (status : Status) (text : List ℕ) → asked ≡ other
-    → IsReplyTo (rows_of other) known sound given now faults risen same status text → IsReplyTo (rows_of asked) known sound given now faults risen same status text
-along known sound given now faults risen same asked other status text e h = subst (λ (a : Option (List ℕ × List ℕ)). IsReplyTo (rows_of a) known sound given now faults risen same status text) (sym e) h
+pub along : {S : Type 0} (known : S → KnownInputs) (asked other : Option (List ℕ × List ℕ)) (old new : S) (status : Status) (text : List ℕ) → asked ≡ other
+    → IsReplyTo known (rows_of other) (limits_of other) old new status text → IsReplyTo known (rows_of asked) (limits_of asked) old new status text
+along known asked other old new status text e h = subst (λ (a : Option (List ℕ × List ℕ)). IsReplyTo known (rows_of a) (limits_of a) old new status text) (sym e) h

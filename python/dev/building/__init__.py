@@ -1,1 +1,1 @@
-"""Making the library for C and the module for browsers, and measures of the merge gate."""
+"""Making the library for C, the module for browsers and programs for other systems, and measures of the merge gate."""

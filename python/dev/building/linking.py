@@ -18,6 +18,12 @@ SONAME = "libtml.so.0"
 """The name by which a program that was linked with the shared library asks for it."""
 PROGRAMS = ("rt", "cc", "ld", "objcopy", "ar")
 VERSIONS = str(Path(__file__).resolve().parents[3] / "tools/library/tml.map")
+SHARED = (
+    "-shared",
+    f"-Wl,-soname,{SONAME},--version-script={VERSIONS}",
+    "-Wl,-z,relro,-z,now,-z,noexecstack,-z,defs,--build-id=none",
+)
+"""How a compiler links the shared library."""
 
 
 class CannotMake(Exception):
@@ -47,8 +53,7 @@ def linked(archive: str) -> tuple[bytes, bytes]:
         run(["ld", "-r", "--whole-archive", archive, "--no-whole-archive", heap, "-o", one])
         run(["objcopy", *(f"--keep-global-symbol={name}" for name in EXPORTS), one])
         run(["ar", "rcsD", static, one])
-        names = f"-Wl,-soname,{SONAME},--version-script={VERSIONS}"
-        run(["cc", "-shared", names, "-Wl,-z,relro,-z,now,-z,noexecstack,-z,defs,--build-id=none", "-o", shared, one])
+        run(["cc", *SHARED, "-o", shared, one])
         with open(shared, "rb") as first, open(static, "rb") as second:
             return first.read(), second.read()
 

@@ -23,6 +23,7 @@ from building.compiling import TOP, module_of
 from building.library import written
 from building.linking import CannotMake, folder_of_kit, need_programs, run
 from building.page import NAME, page_of
+from building.retargeting import PROCESSOR, SHUFFLE, SOUND, TARGET, TML_SHUFFLE, compiler_of, rewritten, text_of
 from tml_corpus import VERSION
 
 SOURCES = TOP / "web"
@@ -36,13 +37,6 @@ OF_BINARYEN = {"nontrapping-fptoint": "nontrapping-float-to-int", "simd128": "si
 EXPORTS = ("tml_answer", "tml_most_of_document", "tml_most_of_evidence", "room", "forget", "__stack_pointer")
 STACK = 4 << 20
 """How many bytes of memory the stack has. Past its end is no memory, since it comes first."""
-TARGET = """target datalayout = "e-m:e-p270:32:32-p271:32:32-p272:64:64-i64:64-i128:128-f80:128-n8:16:32:64-S128"
-target triple = "x86_64-unknown-linux-gnu"
-"""
-PROCESSOR = '"target-cpu"="x86-64-v2"'
-SHUFFLE = "@llvm.x86.ssse3.pshuf.b.128"
-SOUND = ("trap-unreachable", "disable-machine-licm", "disable-postra-machine-licm", "sink-common-insts=false")
-"""What rattle has clang do, or leave, wherever it compiles for."""
 LEFT_OUT = re.compile(r" *\(v128\.(?:load\d+_(?:splat|zero|lane)|load\d+x\d+_[su]|store\d+_lane)\b")
 """The vectors whose addresses `wasm-opt --memory64-lowering` leaves out."""
 
@@ -69,23 +63,17 @@ def main(words: list[str]) -> int:
 
 def made(kit: str, module: Path) -> bytes:
     """The module for browsers."""
-    clang = f"{kit}/toolchain/bin/clang"
+    clang = compiler_of(kit)
     with tempfile.TemporaryDirectory(prefix="web-") as name:
         folder = Path(name)
-        run([clang, "-S", "-emit-llvm", "-x", "ir", str(module), "-o", f"{folder}/handed.ll"])
-        handed = folder / "handed.ll"
-        (folder / "proved.ll").write_text(for_wasm(handed.read_text(encoding="utf-8")), encoding="utf-8")
+        (folder / "proved.ll").write_text(for_wasm(text_of(clang, module, folder)), encoding="utf-8")
         return lowered(linked(clang, folder, [folder / "proved.ll", *(SOURCES / f"{part}.c" for part in PARTS)]))
 
 
 def for_wasm(text: str) -> str:
     """The text of the module for another processor, on which all data lie as they did: pointers have 64 bits on both."""
     features = ",".join(f"+{name}" for name in FEATURES)
-    for old, new in ((TARGET, ""), (PROCESSOR, f'"target-features"="{features}"'), (SHUFFLE, "@tml_shuffle")):
-        if old not in text:
-            raise CannotMake(f"the module of rattle has no {old!r}")
-        text = text.replace(old, new)
-    return text
+    return rewritten(text, {TARGET: "", PROCESSOR: f'"target-features"="{features}"', SHUFFLE: TML_SHUFFLE})
 
 
 def linked(clang: str, folder: Path, sources: Sequence[Path], exports: Sequence[str] = EXPORTS) -> Path:
@@ -95,7 +83,7 @@ def linked(clang: str, folder: Path, sources: Sequence[Path], exports: Sequence[
         "--target=wasm64-unknown-unknown",
         "-mcpu=mvp",
         *(f"-m{name}" for name in FEATURES),
-        *(word for name in SOUND for word in ("-mllvm", f"-{name}")),
+        *SOUND,
         "-O3",
         "-Werror",
     ]

@@ -1,1 +1,1 @@
-"""Making what people install: wheels, packages for Debian, a tar file and the files for browsers, with their sums and notices."""
+"""Making what people install: wheels, packages for Debian, archives of programs, and files for browsers, with sums and notices."""

@@ -1,11 +1,11 @@
-"""The tar file: the two programs with their manual pages and completion, in folders as below /usr/local."""
+"""The tar files: programs with their manual pages and completion, in folders as below /usr/local."""
 
 from __future__ import annotations
 
 import gzip
 import io
 import tarfile
-from collections.abc import Iterable
+from collections.abc import Iterable, Mapping
 from dataclasses import dataclass
 from pathlib import PurePosixPath
 
@@ -21,22 +21,22 @@ class File:
     mode: int = 0o644
 
 
-PAGES = ("tml.1", "tml-verify.1")
-"""The manual pages of the programs."""
-
-
 def tar_of(source: Source, built: Outputs, notices: bytes) -> dict[str, bytes]:
-    """The tar file, by its name. All of it lies in one folder."""
+    """The tar file for this machine, by its name."""
+    return tar_for("linux-x86_64", source, {"tml": built.program, "tml-verify": built.checker}, notices)
+
+
+def tar_for(machine: str, source: Source, programs: Mapping[str, bytes], notices: bytes) -> dict[str, bytes]:
+    """A tar file of programs for a machine, by its name. All of it lies in one folder."""
     name = f"tml-{source.version}"
     tree = {
-        "bin/tml": File(built.program, 0o755),
-        "bin/tml-verify": File(built.checker, 0o755),
-        **{f"share/man/man1/{page}": File(read(f"docs/{page}")) for page in PAGES},
+        **{f"bin/{program}": File(content, 0o755) for program, content in programs.items()},
+        **{f"share/man/man1/{program}.1": File(read(f"docs/{program}.1")) for program in programs},
         "share/bash-completion/completions/tml": File(read("tools/completion/tml.bash")),
         "share/doc/tml/NOTICES": File(notices),
     }
     files = {f"{name}/{path}": file for path, file in tree.items()}
-    return {f"{name}-linux-x86_64.tar.gz": compressed(packed(files, source.time))}
+    return {f"{name}-{machine}.tar.gz": compressed(packed(files, source.time))}
 
 
 def packed(files: dict[str, File], time: int) -> bytes:

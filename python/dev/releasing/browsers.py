@@ -6,18 +6,15 @@ import shutil
 
 from building import compiling, page
 from building.web import HANDED_OUT, PROGRAMS, SOURCES
-from releasing.outputs import changed_below
+from releasing.outputs import made_apart
 
 FOLDER = compiling.OUT / "web"
 NAMES = (page.NAME, "tml.wasm", *HANDED_OUT)
 
 
 def web_files() -> dict[str, bytes]:
-    """All of them by their names; none if one is missing, or older than what it is made of."""
-    paths = [FOLDER / name for name in NAMES]
-    newest = max(changed_below(compiling.NAME), *(path.stat().st_mtime for path in SOURCES.iterdir()))
-    are_made = all(path.is_file() and path.stat().st_mtime >= newest for path in paths)
-    return {path.name: path.read_bytes() for path in paths} if are_made else {}
+    """All of them by their names, if they were made."""
+    return made_apart(FOLDER, NAMES, SOURCES.iterdir())
 
 
 def what_makes_them() -> str:

@@ -14,8 +14,10 @@ from dataclasses import dataclass
 from email.utils import format_datetime
 from pathlib import Path
 
+from building import page
 from building.linking import SONAME, run
 from releasing.archive import File, compressed, folders
+from releasing.browsers import web_files
 from releasing.outputs import Outputs
 from releasing.source import Source, Version, modules, names_in, read
 
@@ -32,6 +34,12 @@ SCRIPTS = {
     "html-entities": "tml-html-entities",
 }
 """The scripts of tools/, and the names under which they are installed."""
+
+LINKED = (
+    "CONTRIBUTING.md", "bench/NOTES.md", "docs/promises.txt", "docs/tml-corpus.1", "python/NOTES.md", "python/dev/reference/README.md",
+    "python/tests/memory_calls.md", "python/tests/mistakes.md", "tools/tml_checker.py",
+)  # fmt: skip
+"""The other files to which links of the documentation lead."""
 
 
 @dataclass(frozen=True)
@@ -104,10 +112,11 @@ def manual_files() -> Tree:
 
 
 def document_files() -> Tree:
-    """The documentation, in folders as in the repository, so that its links lead somewhere."""
-    names = ["README.md", "CHANGELOG.md", *names_in("docs", ".md")]
+    """The documentation, in folders as in the repository, so that its links lead somewhere, and the page for browsers if it was made."""
+    names = ["README.md", "CHANGELOG.md", "SECURITY.md", *names_in("docs", ".md"), *names_in("docs/schema"), *LINKED]
     names += [name for folder in ("samples", "samples/first", "samples/second") for name in names_in(folder)]
-    return {f"{DOCS}/{name}": File(read(name)) for name in names}
+    tree: Tree = {f"{DOCS}/{name}": File(read(name)) for name in names}
+    return tree | {f"{DOCS}/dist/{name}": File(content) for name, content in web_files().items() if name == page.NAME}
 
 
 def library_package(source: Source, built: Outputs, notices: bytes, depends: str) -> Tree:
@@ -131,7 +140,7 @@ def dev_package(source: Source, built: Outputs, notices: bytes) -> Tree:
         f"{FOLDER}/{LIBRARY}.a": File(built.static),
         f"{FOLDER}/{LIBRARY}.so": Link(SONAME),
         f"{FOLDER}/pkgconfig/{LIBRARY}.pc": File(template("libtml.pc", VERSION=source.version, FOLDER=FOLDER)),
-        f"usr/share/doc/{DEV}/LIBRARY.md": File(read("docs/LIBRARY.md")),
+        f"usr/share/doc/{DEV}/LIBRARY.md": File(re.sub(rb"\]\((?=\w+\.md)", f"](../{NAME}/docs/".encode(), read("docs/LIBRARY.md"))),
         **about(DEV, source, notices),
     }
     return tree | control_of(tree, library_fields(DEV, "libdevel", source, f"{LIBRARY} (= {source.version})"))

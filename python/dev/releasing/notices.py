@@ -8,6 +8,10 @@ from pathlib import Path
 from building.crates import libraries_below, listed
 from building.linking import CannotMake
 
+LGPL = Path("/usr/share/common-licenses/LGPL-2.1")
+MINGW = Path(__file__).resolve().parent / "templates/mingw-w64"
+"""The licences of the libraries of C that are linked into the programs for other systems."""
+
 HANDED_OUT = ("tml", "tml_verify", "tml_c")
 """The crates of what is handed out."""
 
@@ -31,6 +35,19 @@ OF_THE_SYSTEM = """
 Programs and the shared library begin and end with files of the GNU C library (crti.o, crtn.o and, in programs, Scrt1.o) and of
 GCC (crtbeginS.o, crtendS.o, libgcc). Their licences, the GNU Lesser General Public License 2.1 or later and the GNU General Public
 License 3 with the GCC Runtime Library Exception, permit linking them with anything. The C library itself is the system's.
+
+The program for Linux on ARM has the C library in it, as Debian's package libc6-dev-arm64-cross has it. Its licence is below, and
+entitles you to what it takes to link the program with another version: ask the owner of the repository.
+"""
+
+OF_MINGW = """
+== The runtime of MinGW-w64, which the program for Windows has in it
+
+"""
+
+OF_GLIBC = """
+== The licence of the GNU C library
+
 """
 
 
@@ -46,7 +63,10 @@ def notices_of(kit: Path, version: str) -> bytes:
         crates[licence or ""].append(crate)
     texts = [f"\n== Crates of the Rattle kit: {', '.join(names)}\n\n{licence}\n" for licence, names in crates.items()]
     runtime = OF_THE_RUNTIME.format(crates=", ".join(sorted(linked & RUNTIME)), kit=version)
-    return "".join([BEGINNING, *texts, runtime, OF_THE_SYSTEM]).encode()
+    if not LGPL.is_file():
+        raise CannotMake(f"no {LGPL}, which Debian's package base-files has")
+    libraries = [OF_MINGW, MINGW.read_text(encoding="utf-8"), OF_GLIBC, LGPL.read_text(encoding="utf-8")]
+    return "".join([BEGINNING, *texts, runtime, OF_THE_SYSTEM, *libraries]).encode()
 
 
 def linked_crates(kit: Path) -> set[str]:

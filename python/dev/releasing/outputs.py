@@ -3,11 +3,12 @@
 from __future__ import annotations
 
 import tempfile
+from collections.abc import Iterable
 from dataclasses import dataclass
 from functools import cache
 from pathlib import Path
 
-from building.compiling import OUT, TOP, files_of
+from building.compiling import NAME, OUT, TOP, files_of
 from building.crates import libraries_below, listed
 from building.linking import CannotMake, run
 from releasing.source import read
@@ -67,6 +68,17 @@ def need_all() -> None:
             raise CannotMake(f"crates were changed after {shown(path)} was made: .ci/run makes it anew")
 
 
+def made_apart(folder: Path, names: Iterable[str], sources: Iterable[Path]) -> dict[str, bytes]:
+    """Files by their names that a tool makes in a folder, of the crate tml_c and of further sources, and that a release may lack.
+
+    There are none if one is missing, or older than what it is made of.
+    """
+    paths = [folder / name for name in names]
+    newest = max(changed_below(NAME), *(path.stat().st_mtime for path in sources))
+    are_made = all(path.is_file() and path.stat().st_mtime >= newest for path in paths)
+    return {path.name: without_place(path) for path in paths} if are_made else {}
+
+
 def changed_below(crate: str) -> float:
     """When a file of a crate, or of one below it, was changed last, in seconds from 1970."""
     return max(map(changed, (crate, *libraries_below(crate, dict(listed())))))
@@ -79,10 +91,16 @@ def changed(crate: str) -> float:
 
 
 def binary_at(path: Path) -> bytes:
-    """A program or library for amd64, which does not name the folder in which it was made."""
-    content = path.read_bytes()
+    """A program or library for amd64."""
+    content = without_place(path)
     if content[:5] != b"\x7fELF\x02" or content[18:20] != b"\x3e\0":
         raise CannotMake(f"{shown(path)} is no program or library for amd64")
+    return content
+
+
+def without_place(path: Path) -> bytes:
+    """A file that does not name the folder in which it was made."""
+    content = path.read_bytes()
     if bytes(TOP) in content:
         raise CannotMake(f"{shown(path)} has the path of this clone in it")
     return content

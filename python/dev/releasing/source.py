@@ -64,10 +64,10 @@ def versions_of(changes: str) -> tuple[Version, ...]:
 
     What is not released yet is none.
     """
-    headings = re.findall(r"^## (?!Unreleased$)(.*)$", changes, re.MULTILINE)
-    found = [re.fullmatch(r"(\d+\.\d+\.\d+), (\d{4}-\d\d-\d\d)", heading) for heading in headings]
+    headings = re.findall(r"^## (?!\[Unreleased\]$)(.*)$", changes, re.MULTILINE)
+    found = [re.fullmatch(r"\[(\d+\.\d+\.\d+)\] - (\d{4}-\d\d-\d\d)", heading) for heading in headings]
     if not found or None in found:
-        raise CannotMake("CHANGELOG.md has a heading that is not `## VERSION, DATE`, or none")
+        raise CannotMake("CHANGELOG.md has a heading that is not `## [VERSION] - DATE`, or none")
     days = [(one[1], datetime.fromisoformat(one[2]).replace(tzinfo=timezone.utc)) for one in found if one]
     earlier = [sum(day == other for _, other in days[place + 1 :]) for place, (_, day) in enumerate(days)]
     return tuple(Version(name, day + timedelta(minutes=minutes)) for (name, day), minutes in zip(days, earlier, strict=True))

@@ -8,7 +8,7 @@ from pathlib import Path
 
 from building.linking import CannotMake, run
 
-LIBRARIES = frozenset({"libc.so.6", "libm.so.6", "libgcc_s.so.1", "ld-linux-x86-64.so.2"})
+LIBRARIES = frozenset({"libc.so.6", "libm.so.6", "libgcc_s.so.1", "ld-linux-x86-64.so.2", "ld-linux-aarch64.so.1"})
 """The libraries that each Linux has on which wheels are installed."""
 
 OLDEST = (2, 5)

@@ -12,14 +12,14 @@ from pathlib import Path
 from building.compiling import TOP
 from building.linking import CannotMake, need_programs
 from releasing.debian import TEMPLATES
+from releasing.manifest import need_whole
 
 SCRIPT = TEMPLATES / "try.sh"
 
 
 def try_release(folder: Path) -> None:
     """Tries all files of a release. What does not pass is an error, and what was printed before goes to standard error."""
-    if not (folder / "SHA256SUMS").is_file():
-        raise CannotMake(f"{folder} is no release: it has no SHA256SUMS")
+    need_whole(folder)
     need_programs(("mmdebstrap",))
     hooks = [
         'mkdir "$1/release" "$1/samples"',
@@ -33,4 +33,4 @@ def try_release(folder: Path) -> None:
     status = subprocess.run(words, stdin=subprocess.DEVNULL, stdout=sys.stderr, check=False).returncode
     if status != 0:
         raise CannotMake(f"a file of {folder} did not pass, or there is no new system: mmdebstrap ended with status {status}")
-    print(f"{folder}: all files passed")
+    print(f"{folder}: all files for this machine passed")

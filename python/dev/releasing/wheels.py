@@ -1,4 +1,4 @@
-"""The wheels, files that pip installs: one with the programs and the library, and one of Python alone."""
+"""The wheels, files that pip installs: one of Python alone, and one for each kind of processor, with programs and the library."""
 
 from __future__ import annotations
 
@@ -7,6 +7,7 @@ import stat
 import time
 import zipfile
 from base64 import urlsafe_b64encode
+from collections.abc import Mapping
 from hashlib import sha256
 
 from releasing.archive import File
@@ -19,22 +20,23 @@ SOURCES = "python/src/"
 
 
 def wheels_of(source: Source, built: Outputs, notices: bytes, glibc: tuple[int, int]) -> dict[str, bytes]:
-    """Both wheels, by their names."""
-    of_python = {name.removeprefix(SOURCES): File(read(name)) for name in modules()}
+    """The wheel of Python alone and that for this machine, by their names."""
+    programs, platform = {"tml": built.program, "tml-verify": built.checker}, "manylinux_{}_{}_x86_64".format(*glibc)
+    own = with_programs(source, programs, built.shared)
+    return {**wheel(source, notices, {}, "any"), **wheel(source, notices, own, platform)}
+
+
+def with_programs(source: Source, programs: Mapping[str, bytes], shared: bytes) -> dict[str, File]:
+    """What a wheel for a kind of processor has of its own: programs, of which Python finds `tml`, and the library."""
     scripts = f"{NAME}-{source.version}.data/scripts"
-    of_machine = {
-        "tml/tml": File(built.program, 0o755),
-        "tml/libtml.so": File(built.shared),
-        f"{scripts}/tml": File(built.program, 0o755),
-        f"{scripts}/tml-verify": File(built.checker, 0o755),
-    }
-    platform = "manylinux_{}_{}_x86_64".format(*glibc)
-    return {**wheel(source, notices, of_python, "any"), **wheel(source, notices, of_python | of_machine, platform)}
+    of_python = {"tml/tml": File(programs["tml"], 0o755), "tml/libtml.so": File(shared)}
+    return of_python | {f"{scripts}/{name}": File(content, 0o755) for name, content in programs.items()}
 
 
-def wheel(source: Source, notices: bytes, files: dict[str, File], platform: str) -> dict[str, bytes]:
-    """A wheel of these files for a platform, by its name."""
+def wheel(source: Source, notices: bytes, own: Mapping[str, File], platform: str) -> dict[str, bytes]:
+    """A wheel for a platform, by its name: the packages of Python, and what it has of its own."""
     tag, folder = f"py3-none-{platform}", f"{NAME}-{source.version}.dist-info"
+    files = {name.removeprefix(SOURCES): File(read(name)) for name in modules()} | dict(own)
     about = {
         "METADATA": metadata(source.version).encode(),
         "NOTICES": notices,

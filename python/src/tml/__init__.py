@@ -34,7 +34,7 @@ if TYPE_CHECKING:
     from .statuses import *
     from .writing import *
 
-__version__ = "0.4.0"
+__version__ = "0.5.0"
 """The version of everything. pyproject.toml and tools/release read it here, and a test holds the newest heading of CHANGELOG.md to it."""
 
 MODULES = (

@@ -31,7 +31,7 @@ echo "SHA256SUMS:"
 
 echo "the wheel with the programs:"
 python3 -m venv /wheel
-/wheel/bin/pip install --quiet --no-index /release/*-manylinux_*.whl
+/wheel/bin/pip install --quiet --no-index /release/*-manylinux_*_x86_64.whl
 answers /wheel/bin
 names_links /wheel/bin
 (cd / && /wheel/bin/python -c 'import tml; print(tml.clash("/samples/port.xml"))')

@@ -9,7 +9,7 @@ from typing import Protocol
 
 from tml.results import Score
 
-from ..check.formats import Array, Lines, located, place_object, printable
+from ..check.formats import Array, Lines, located, place_object
 from ..files.finding import counted, shown
 from ..matrix.formats import harmless, in_lines
 from .agree import REASONS, NotCounted, PairReport
@@ -114,22 +114,19 @@ class Objects(Format):
     def __init__(self, objects: Lines) -> None:
         self.objects = objects
 
-    def entry(self, entry: dict[str, object]) -> str:
-        """What is printed of one object."""
-        return self.objects.element(printable(entry))
-
     def pair(self, report: PairReport, scores: Score) -> str:
         pair = {"name": report.name, "path": report.path, "key": report.key_path, "readTouching": bool(report.readings)}
         links = [disagreement_object(one) for one in report.disagreements]
-        return self.entry({**pair, **scores_object(scores), "links": links})
+        return self.objects.element({**pair, **scores_object(scores), "links": links})
 
     def not_counted(self, one: NotCounted) -> str:
-        return self.entry({"path": one.path, "notCounted": one.reason, "problem": one.text})
+        return self.objects.element({"path": one.path, "notCounted": one.reason, "problem": one.text})
 
     def sums(self, corpus: Corpus) -> str:
         means = {measure: corpus.macro(measure) for measure in MEASURES}
         macro = {measure: {"value": one.value, "pairs": one.pairs} for measure, one in means.items()}
-        return self.entry({"pairs": corpus.pairs, "micro": scores_object(corpus.micro), "macro": macro}) + self.objects.end()
+        sums: dict[str, object] = {"pairs": corpus.pairs, "micro": scores_object(corpus.micro), "macro": macro}
+        return self.objects.element(sums) + self.objects.end()
 
 
 def scores_object(scores: Score) -> dict[str, object]:

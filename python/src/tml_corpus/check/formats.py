@@ -19,6 +19,8 @@ if TYPE_CHECKING:
     from .placed import Mark, PlacedFault, PlacedNote, PlacedWarning
 
 CONSEQUENCE = "(perhaps only a consequence)"
+JSON_VERSION = 1
+"""The version of all objects of JSON, which docs/schema describes. It grows when a field goes or gets another meaning."""
 
 
 class WarningCounts:
@@ -159,9 +161,9 @@ class Text:
 class Lines:
     """Objects of JSON on lines of their own."""
 
-    def element(self, line: str) -> str:
+    def element(self, entry: dict[str, object]) -> str:
         """What is printed of one more object."""
-        return line
+        return printable(entry)
 
     def end(self) -> str:
         """What comes after all objects."""
@@ -174,9 +176,9 @@ class Array(Lines):
     def __init__(self) -> None:
         self.is_begun = False
 
-    def element(self, line: str) -> str:
+    def element(self, entry: dict[str, object]) -> str:
         begin, self.is_begun = (",\n" if self.is_begun else "[\n"), True
-        return begin + line.rstrip("\n")
+        return begin + printable(entry).rstrip("\n")
 
     def end(self) -> str:
         return "\n]\n" if self.is_begun else "[]\n"
@@ -191,7 +193,7 @@ class Objects:
         self.objects = objects
 
     def file(self, judgement: Judgement) -> str:
-        return self.objects.element(printable(judgement_object(judgement)))
+        return self.objects.element(judgement_object(judgement))
 
     def plain(self, path: str) -> str:
         return self.file(Judgement(path))
@@ -201,10 +203,10 @@ class Objects:
 
 
 def printable(entry: dict[str, object]) -> str:
-    """JSON in a log, where `##` may begin a command: that stands within strings alone, where escapes are."""
+    """An object on a line of JSON, after its version. In a log `##` may begin a command, so it is escaped; only strings have it."""
     import json
 
-    return json.dumps(entry).replace("##", "\\u0023#") + "\n"
+    return json.dumps({"version": JSON_VERSION, **entry}).replace("##", "\\u0023#") + "\n"
 
 
 def judgement_object(judgement: Judgement) -> dict[str, object]:

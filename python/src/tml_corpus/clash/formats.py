@@ -114,7 +114,7 @@ class Objects(Form):
         self.checked, self.objects = checked, objects
 
     def file(self, report: ClashReport) -> str:
-        return self.objects.element(formats.printable(report_object(report, self.checked)))
+        return self.objects.element(report_object(report, self.checked))
 
     def plain(self, path: str) -> str:
         return self.file(ClashReport(Judgement(path)))

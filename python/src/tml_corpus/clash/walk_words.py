@@ -40,8 +40,9 @@ class WalkStep:
 
 
 def steps_in_words(wording: Wording, walk: Sequence[Step]) -> list[WalkStep]:
-    """The steps of a walk, each of which begins where the one before it ends. That an interval starts before it ends is no step of its own,
-    but part of the next one, or at the end of the walk of the one before it.
+    """The steps of a walk, each of which begins where the one before it ends: first one by a link that comes after one by a link, if
+    there is such a step. That an interval starts before it ends is no step of its own, but part of the next one, or at the end of the
+    walk of the one before it.
     """
     steps = [step_in_words(wording, step) for step in walk]
     pairs = zip(steps, steps[1:] + steps[:1], strict=True)
@@ -52,7 +53,8 @@ def steps_in_words(wording: Wording, walk: Sequence[Step]) -> list[WalkStep]:
         if joined and (joined[-1].is_span() or step.is_span() and step is steps[-1]) and len(steps) > 2:
             step = joined.pop().with_next(step)
         joined.append(step)
-    return joined
+    begin = next((place for place, step in enumerate(joined) if "calendar" not in (step.relation, joined[place - 1].relation)), 0)
+    return joined[begin:] + joined[:begin]
 
 
 def step_in_words(wording: Wording, step: Step) -> WalkStep:

@@ -12,7 +12,7 @@ from tml.attempts import attempted
 from ..asking.program import CannotRun
 from ..clash.fitting import not_judged
 from ..command_line.run import Run
-from ..figure.draw import Paper
+from ..figure.draw import FORMS, SCREEN, Paper, width_of
 from ..timeline.timeline import STANDARD_OUTPUT, Choices, draw, draw_placing, form_of, undrawn, write_picture
 
 COLUMN = "84mm"
@@ -59,17 +59,15 @@ def command(run: Run, options: Options) -> int:
     return drawn.status
 
 
-def paper_of(options: Options) -> Paper | None:
-    """How a picture for a paper is wanted, where it is; what does not go together is refused."""
-    from ..figure.draw import FORMS, width_of
-
+def paper_of(options: Options) -> Paper:
+    """What the picture is for; what does not go together is refused."""
     form = form_of(options.output)
     if not options.bare:
         if options.width is not None:
             raise CannotRun("--width goes with --bare")
         if form in (".pdf", ".tex"):
             raise CannotRun(f"a picture in {form} is one for a paper: add --bare")
-        return None
+        return SCREEN
     if form not in FORMS:
         raise CannotRun("--bare draws .svg, .pdf or .tex")
     if options.seconds or options.text_order:

@@ -1,17 +1,12 @@
-"""A picture for a paper as a file: the forms that there are, and what is asked of `tml` for one."""
+"""A picture as a file: its forms, how broad it can be, and how closely its bars are set if it has to go on a page."""
 
 from __future__ import annotations
 
 import re
+from collections.abc import Callable
 from dataclasses import dataclass
 
-from ..asking.program import CannotRun, Program
-from ..check.placed import PlacedFault
-from ..clash.report import PlacedClash
-from ..clash.walk_words import steps_in_words
-from ..document.words import Wording
-from ..timeline.rows import Timeline
-from . import of_clash, of_timeline
+from .of_timeline import CLOSE, PITCH
 from .shapes import Figure
 
 UNITS = {"mm": 72 / 25.4, "cm": 720 / 25.4, "in": 72.0, "pt": 72 / 72.27, "bp": 1.0}
@@ -45,6 +40,21 @@ class Paper:
 
 
 SCREEN = Paper(".svg", 600.0, is_for_screen=True)
+NARROW = 190.0
+"""The width of a picture for a window that is too narrow for that of `SCREEN`, in points."""
+
+
+def on_pages(drawn: Callable[[float], Figure]) -> Figure:
+    """A picture whose lanes are as far apart as half a page of A4 allows, or else a whole one, within limits."""
+    loose = drawn(PITCH)
+    if loose.height <= PAGE / 2:
+        return loose
+    close = drawn(CLOSE)
+    for most in (PAGE / 2, PAGE):
+        if close.height <= most <= loose.height:
+            # Half a point is left, so that no rounding makes it more than the page has.
+            return drawn(CLOSE + (PITCH - CLOSE) * (most - 0.5 - close.height) / (loose.height - close.height))
+    return loose if loose.height <= PAGE else close
 
 
 def written(figure: Figure, paper: Paper) -> bytes:
@@ -60,30 +70,3 @@ def written(figure: Figure, paper: Paper) -> bytes:
     from .svg_form import svg
 
     return svg(figure, paper.is_for_screen).encode("utf-8")
-
-
-def timeline_figure(timeline: Timeline, paper: Paper, one_each: bool) -> Figure:
-    """The picture of a timeline, perhaps with a lane for each bar."""
-    return of_timeline.figure_of(timeline, paper.width, one_each=one_each, with_said=paper.is_for_screen)
-
-
-def placing_figure(timeline: Timeline, one_each: bool) -> Figure:
-    """The picture of a placing in seconds, for a screen."""
-    from . import of_placing
-
-    return of_placing.figure_of(timeline, SCREEN.width, one_each)
-
-
-def clash_figure(program: Program, title: str, document: bytes, clash: PlacedClash, width: float) -> Figure:
-    """The picture of a clash."""
-    if not clash.walk:
-        raise CannotRun("tml printed no walk of this clash")
-    wording = Wording(program, document)
-    return of_clash.figure_of(title, wording, steps_in_words(wording, clash.walk), width)
-
-
-def fault_figure(title: str, document: bytes, fault: PlacedFault, width: float) -> Figure:
-    """The picture of the place of a fault."""
-    from . import of_fault
-
-    return of_fault.figure_of(title, document, fault, width)

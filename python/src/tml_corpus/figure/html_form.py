@@ -16,31 +16,45 @@ STYLE = (
     f"""
 :root{{--drawn-link:{LIGHT["link"]}}}"""
     + """
-.picture{overflow:auto;background:#fff;color:#000}.drawn{min-width:44em;position:relative}.drawn svg{display:block;width:100%;height:auto}
+.picture{overflow:auto;background:#fff;color:#000}.drawn{position:relative}.drawn svg{display:block;width:100%;height:auto}
+.wide{min-width:44em}.narrow{display:none;max-width:36em}
+@media screen and (max-width:60em){.wide{display:none}.narrow{display:block}}
 .axis{position:sticky;top:0;height:0;z-index:1;pointer-events:none}.axis svg{background:#fff}
 .row{display:flex;flex-wrap:wrap;gap:0 1em;padding:1px 4px;color:inherit;text-decoration:none;break-inside:avoid}
 .row:nth-child(even){background:var(--odd)}.row .label{flex:0 1 16em}
 .row .label::before{content:"";display:inline-block;width:.7em;height:.7em;
 margin-right:.5em;border:1px solid #000;print-color-adjust:exact}
 .row .around{flex:1 1 14em;color:var(--soft)}.row .around strong{color:var(--ink)}
-.row .name{color:var(--soft)}.row.unasserted .label{font-style:italic}
+.row .name{color:var(--soft)}.row.unasserted .label{font-style:italic}.row.on{background:var(--mark)}.row.near{background:var(--near)}
+.row.on .name,.row.on .around{color:var(--ink)}.row:focus-visible{outline:3px solid var(--strong);outline-offset:-3px}
 g.on,text.on{outline:2px solid var(--drawn-link)}g.near,text.near{outline:1px dashed var(--drawn-link)}
 @media screen and (prefers-color-scheme:dark){.picture{filter:invert(1) hue-rotate(180deg)}}
-@media print{.picture{overflow:visible}.drawn{min-width:0}.drawn svg{max-height:calc(100vh - 5em)}.axis{display:none}}
+@media print{.picture{overflow:visible}.wide{min-width:0}.drawn:not(.high) svg{max-height:calc(100vh - 5em)}.axis{display:none}
+section:has(.wide.high){break-before:page}:is(h1,h2):has(+.picture .wide.high){position:absolute;margin:0}.wide.high svg{padding-top:3em}}
 """
     + "".join(f".row.{kind} .label::before{{background:{colour}}}" for kind, (colour, _) in FILLINGS.items())
 )
 """The picture has the colours of all pictures, of which a dark screen shows the opposite brightness."""
 
+HIGH = 1.3
+"""A picture is high if it is so many times as high as it is broad."""
+
 Attributes = dict[str, Value]
 
 
-def in_page(figure: Figure) -> Markup:
-    """The picture, and over it a copy of its dates for where it is scrolled."""
-    copy = element("use", href="#drawn", width=two(figure.width), height=two(figure.height))
+def in_page(narrow: Figure, wide: Figure) -> Markup:
+    """A picture in two layouts: one for narrow windows, and one for others and for paper."""
+    layouts = (layout(name, figure) for name, figure in (("narrow", narrow), ("wide", wide)))
+    return element("div", "\n", lined(*layouts), class_="picture")
+
+
+def layout(name: str, figure: Figure) -> Markup:
+    """A picture, and over it a copy of its dates for when it is scrolled."""
+    copy = element("use", href=f"#{name}", width=two(figure.width), height=two(figure.height))
     dates = element("svg", copy, viewBox=f"0 0 {two(figure.width)} {two(figure.axis)}", aria_hidden="true")
-    content = lined(element("div", dates, class_="axis") if figure.axis else NOTHING, drawing(figure, id="drawn"))
-    return element("div", element("div", "\n", content, class_="drawn"), class_="picture")
+    content = lined(element("div", dates, class_="axis") if figure.axis else NOTHING, drawing(figure, f"{name}-", id=name))
+    # A high one is printed on several pages, since its letters would be too small on one.
+    return element("div", "\n", content, class_=f"drawn {name}{' high' if figure.height > HIGH * figure.width else ''}")
 
 
 def in_words(timeline: Timeline, name: str, attributes_of: Callable[[int, Row], Attributes]) -> Markup:
@@ -50,17 +64,12 @@ def in_words(timeline: Timeline, name: str, attributes_of: Callable[[int, Row], 
 
 
 def in_row(row: Row, name: str, attributes: Attributes) -> Markup:
-    """One interval: its text and name, and its dates or the words around it."""
+    """One interval: its text and name, or its name alone; and its dates or the words around it."""
     kinds = f"{attributes.pop('class_', '')} row {row.kind}{' unasserted' if row.unasserted else ''}".strip()
-    parts = element("span", label(row), class_="label"), element("span", beside_label(row), class_="around")
+    text, called = plain(row.text), plain(row.name)
+    label = together(element("bdi", text), " ", element("bdi", f"({called})", class_="name")) if text else element("bdi", called)
+    parts = element("span", label, class_="label"), element("span", beside_label(row), class_="around")
     return element(name, *parts, class_=kinds, data_interval=row.name, title=row.description(), **attributes)
-
-
-def label(row: Row) -> Markup:
-    """The text and the name of a row; where there is no text the name alone."""
-    text = plain(row.text)
-    name = element("bdi", f"({plain(row.name)})", class_="name")
-    return together(element("bdi", text), " ", name) if text else element("bdi", plain(row.name))
 
 
 def beside_label(row: Row) -> Markup:

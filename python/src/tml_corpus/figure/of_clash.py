@@ -7,10 +7,9 @@ from collections.abc import Sequence
 
 from ..clash.walk_words import WalkStep
 from ..document.words import Wording
-from ..timeline.lettering import fitted, in_lines, measured, plain
-from .shapes import GREY, LABEL, SMALL, Box, Figure, Line, Point, Shape, Text
+from ..timeline.lettering import fitted, measured, plain
+from .shapes import EDGE, GREY, LABEL, SKIP, SMALL, Box, Figure, Line, Point, Shape, Text
 
-EDGE, LEADING = 3.0, 9.0
 MOST = 12
 """How many steps a ring has at most; a table has more."""
 
@@ -28,8 +27,8 @@ def figure_of(title: str, wording: Wording, steps: Sequence[WalkStep], width: fl
         figure.height += 8
         (put_lines if is_ring else put_table)(figure, wording, steps)
         closing = f"So the {point_in_words(wording, steps[0].first)} would be before itself."
-        put_text(figure, closing + " Solid: before; dashed: no later than." * is_ring, EDGE, figure.width - EDGE, SMALL)
-        figure.height += 4 - LEADING
+        closed = figure.write(EDGE, figure.height, closing + " Solid: before; dashed: no later than." * is_ring, size=SMALL)
+        figure.height = closed - SMALL - SKIP + 4
         figure.said = " ".join([*(f"{number}. {sentence(wording, step)}." for number, step in enumerate(steps, 1)), closing])
     return figure
 
@@ -42,9 +41,7 @@ def put_ring(figure: Figure, wording: Wording, steps: Sequence[WalkStep], width:
     for number, step in enumerate(steps):
         figure.shapes += arrow(centre, radius, number, len(steps), step.strict)
     figure.shapes += [Box(x - 2.2, y - 2.2, 4.4, 4.4, "known", 2.2) for x, y in points]
-    figure.shapes += [
-        one for step, point in zip(steps, points, strict=True) for one in named(point_in_words(wording, step.first), centre, point, width)
-    ]
+    figure.shapes += [named(point_in_words(wording, step.first), centre, point, width) for step, point in zip(steps, points, strict=True)]
     figure.height = centre[1] + radius + 14
 
 
@@ -73,16 +70,13 @@ def along(centre: Point, point: Point, length: float) -> Point:
     return point[0] - y * length, point[1] + x * length
 
 
-def named(text: str, centre: Point, point: Point, width: float) -> list[Shape]:
+def named(text: str, centre: Point, point: Point, width: float) -> Text:
     """The words of a point outside of its ring."""
     x, y = point
-    is_middle = abs(x - centre[0]) < 12
-    if is_middle:
-        text = fitted(text, (width - 2 * EDGE), LABEL)
-        return [Text(x, y - 6 if y < centre[1] else y + 10.5, text, LABEL, "middle", halo=True)]
-    free = (width - x if x > centre[0] else x) - EDGE - 6
-    text = fitted(text, free, LABEL)
-    return [Text(x + 6, y + 2.3, text, LABEL, halo=True) if x > centre[0] else Text(x - 6, y + 2.3, text, LABEL, "end", halo=True)]
+    if abs(x - centre[0]) < 12:
+        return Text(x, y - 6 if y < centre[1] else y + 10.5, fitted(text, width - 2 * EDGE, LABEL), LABEL, "middle", halo=True)
+    away, free = (6, width - x) if x > centre[0] else (-6, x)
+    return Text(x + away, y + 2.3, fitted(text, free - EDGE - 6, LABEL), LABEL, "start" if away > 0 else "end", halo=True)
 
 
 def point_in_words(wording: Wording, point: int) -> str:
@@ -92,36 +86,22 @@ def point_in_words(wording: Wording, point: int) -> str:
 
 def put_lines(figure: Figure, wording: Wording, steps: Sequence[WalkStep]) -> None:
     """A line of words for each step."""
-    indent = measured("00 ", LABEL)
-    for number, step in enumerate(steps):
-        figure.shapes.append(Text(EDGE + indent - 3, figure.height, str(number + 1), LABEL, "end", bold=True))
-        put_text(figure, sentence(wording, step), EDGE + indent, figure.width - EDGE)
-        figure.height += 1.5
+    begin = EDGE + measured("00 ", LABEL)
+    for number, step in enumerate(steps, 1):
+        figure.shapes.append(Text(begin - 3, figure.height, str(number), LABEL, "end", bold=True))
+        figure.height = figure.write(begin, figure.height, sentence(wording, step)) + 1.5
 
 
 def put_table(figure: Figure, wording: Wording, steps: Sequence[WalkStep]) -> None:
     """A row for each step: the point, how it is to the point of the next row, and why."""
-    indent = measured(f"{len(steps)} ", LABEL)
-    begin = EDGE + indent
-    lefts = [begin + part * (figure.width - EDGE - begin) for part in COLUMNS]
-    for number, step in enumerate(steps):
-        top, bottoms = figure.height, list[float]()
-        figure.shapes.append(Text(begin - 3, top, str(number + 1), LABEL, "end", bold=True))
-        cells = (point_in_words(wording, step.first), verb(step), plain(step.reason))
-        for cell, left, right in zip(cells, lefts, (*lefts[1:], figure.width), strict=True):
-            figure.height = top
-            put_text(figure, cell, left, right - EDGE)
-            bottoms.append(figure.height)
-        figure.height = max(bottoms) + 2
+    begin, end = EDGE + measured(f"{len(steps)} ", LABEL), figure.width - EDGE
+    lefts = [begin + part * (end - begin) for part in COLUMNS]
+    for number, step in enumerate(steps, 1):
+        figure.shapes.append(Text(begin - 3, figure.height, str(number), LABEL, "end", bold=True))
+        cells = zip((point_in_words(wording, step.first), verb(step), plain(step.reason)), lefts, (*lefts[1:], figure.width), strict=True)
+        figure.height = max(figure.write(left, figure.height, cell, right - EDGE) for cell, left, right in cells) + 2
         y = figure.height - LABEL - 2.5
-        figure.shapes.append(Line(((EDGE, y), (figure.width - EDGE, y)), 0.25, GREY))
-
-
-def put_text(figure: Figure, text: str, left: float, right: float, size: float = LABEL) -> None:
-    """A text in lines between two edges, from the height of the picture on, which it makes higher."""
-    for line in in_lines(text, right - left, size):
-        figure.shapes.append(Text(left, figure.height, line, size))
-        figure.height += LEADING
+        figure.shapes.append(Line(((EDGE, y), (end, y)), 0.25, GREY))
 
 
 def verb(step: WalkStep) -> str:

@@ -5,10 +5,12 @@ from __future__ import annotations
 from tml.places import Places
 
 from ..check.placed import Mark, PlacedFault
-from ..timeline.lettering import fitted, in_lines, measured, plain
-from .shapes import LABEL, Box, Figure, Text
+from ..timeline.lettering import fitted, measured, plain
+from .shapes import EDGE, LABEL, Box, Figure, Text
 
-EDGE, LEADING, PAD = 3.0, 9.0, 2.0
+PAD = 2.0
+"""How far the box is from what is in it, and from what is next to it."""
+
 MOST = 0.6
 """How much of the width the stretch in the box takes at most."""
 
@@ -19,11 +21,7 @@ def figure_of(title: str, document: bytes, fault: PlacedFault, width: float) -> 
     y = EDGE + LABEL + PAD
     put_source(figure, *parts_of(document, fault.mark), y)
     figure.said = f"Line {fault.place.line}, column {fault.place.column}: {fault.fault.name}: {plain(fault.text)}"
-    y += PAD + LEADING
-    for line in in_lines(figure.said, width - 2 * EDGE, LABEL):
-        y += LEADING
-        figure.shapes.append(Text(EDGE, y, line, LABEL))
-    figure.height = y + EDGE + PAD
+    figure.height = figure.write(EDGE, y + PAD + 2 * LABEL + EDGE, figure.said)
     return figure
 
 
@@ -44,7 +42,7 @@ def put_source(figure: Figure, before: str, stretch: str, after: str, y: float) 
     stretch = fitted(stretch, MOST * figure.width, LABEL)
     room, broad = figure.width - 2 * EDGE, measured(stretch, LABEL) + 2 * PAD
     behind = min(measured(after, LABEL) + PAD, max((room - broad) / 2, room - broad - measured(before, LABEL) - PAD))
-    before = last_part(before, room - broad - behind - PAD)
+    before = fitted(before[::-1], room - broad - behind - PAD, LABEL)[::-1]
     x = EDGE + measured(before, LABEL) + PAD
     figure.shapes += [
         Box(x, y - LABEL - PAD + 1, broad, LABEL + 2 * PAD, "exact", 1.5),
@@ -52,12 +50,3 @@ def put_source(figure: Figure, before: str, stretch: str, after: str, y: float) 
         Text(x + broad / 2, y, stretch, LABEL, "middle", bold=True),
         Text(x + broad + PAD, y, fitted(after, behind - PAD, LABEL), LABEL),
     ]
-
-
-def last_part(text: str, room: float) -> str:
-    """The end of a text, cut with an ellipsis if it takes more room."""
-    if measured(text, LABEL) <= room:
-        return text
-    while text and measured(f"\u2026{text}", LABEL) > room:
-        text = text[1:]
-    return f"\u2026{text}"

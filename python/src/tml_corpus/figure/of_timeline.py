@@ -10,35 +10,27 @@ It states only what `timeline.known` holds, by these conventions, which its lege
 
 from __future__ import annotations
 
-import re
 from collections.abc import Collection, Mapping, Sequence
 from dataclasses import dataclass, field, replace
 from graphlib import TopologicalSorter
-from itertools import pairwise
+from itertools import accumulate, pairwise
 
-from ..document.date_words import MONTHS, stretch
 from ..timeline.extents import Extent, Positions
 from ..timeline.known import Known, Order
-from ..timeline.lettering import fitted, in_lines, measured, plain
-from ..timeline.rows import NO_INTERVAL, Row, Timeline
-from ..timeline.sentences import named, order_said, place_called
+from ..timeline.lettering import fitted, measured, plain
+from ..timeline.rows import KINDS, NO_INTERVAL, Row, Timeline
+from ..timeline.sentences import named, order_said, place_called, said_of
+from .dates import Dated, dated, name_of
 from .layout import packed, spread
-from .shapes import BLACK, GREY, LABEL, SMALL, Box, Figure, Line, Shape, Text
+from .shapes import BLACK, EDGE, GREY, LABEL, SKIP, SMALL, Box, Figure, Line, Shape, Text
 
-EDGE, BAND, BAR, PITCH, LEADING = 3.0, 10.0, 10.0, 15.0, LABEL + 2.2
-"""What is free at the edges; the heights of a date and of a bar; and how far apart two lanes are, and two lines of text."""
+PITCH, CLOSE = 15.0, 10.5
+"""How far apart two lanes are, and how far they are at least if there is little room. A bar is two thirds of that high."""
+
+BRIEF = 90.0
+"""How broad the text of an interval is at most if it is named to say when another one is."""
 
 PALE, LIGHT = "#D5D5D5", "#A8A8A8"
-
-KINDS = {
-    "event": "event",
-    "unasserted": "not asserted",
-    "exact": "date",
-    "within": "time within a date",
-    "free": "time without a date",
-}
-MONTH = re.compile("|".join(MONTHS))
-YEAR = re.compile(r" (\d{4,5})$")
 
 LINES = {
     "<": ("before", Line((), arrow=True)),
@@ -65,6 +57,7 @@ class Drawing:
     """The rows that are drawn, by the numbers of their intervals."""
 
     with_said: bool = False
+    pitch: float = PITCH
     bars: dict[int, Box] = field(default_factory=dict)
     behind: list[Shape] = field(default_factory=list)
     lines: list[Shape] = field(default_factory=list)
@@ -75,23 +68,21 @@ class Drawing:
         return row.description() if self.with_said else ""
 
 
-def figure_of(timeline: Timeline, width: float, *, one_each: bool = False, with_said: bool = False) -> Figure:
+def figure_of(timeline: Timeline, width: float, *, one_each: bool = False, with_said: bool = False, pitch: float = PITCH) -> Figure:
     """The picture in a width, perhaps with a lane for each bar, and with what is known of each bar where it is pointed at."""
-    known, every = timeline.known, dict(zip(timeline.order, timeline.rows, strict=True))
-    listed = set(known.listed)
-    rows = {number: row for number, row in every.items() if number not in listed}
-    names = names_of_dates([row for row in rows.values() if row.kind == "exact"])
-    positions = positions_of(timeline, rows, names, width)
-    drawing = Drawing(timeline, width, positions.places, {number: positions.extent(known, number) for number in rows}, rows, with_said)
-    top = put_dates(drawing, names)
+    known, every = timeline.known, timeline.by_number()
+    rows = {number: row for number, row in every.items() if row.is_tied}
+    dates = dated(known, rows)
+    positions = positions_of(known, rows, dates, width)
+    extents = {number: positions.extent(known, number) for number in rows}
+    drawing = Drawing(timeline, width, positions.places, extents, rows, with_said, pitch)
+    top = put_dates(drawing, dates)
     bottom = put_bars(drawing, top, one_each)
     put_places(drawing, every, top, bottom)
     for order in known.orders:
         drawing.lines += line_of(drawing, order)
     figure = Figure(width, f"Timeline of {plain(timeline.title)}", said=described(timeline, every), axis=top + 4)
     figure.shapes = [*drawing.behind, *drawing.lines, *drawing.front]
-    if not timeline.rows:
-        bottom = put_lines(figure, EDGE, EDGE + LABEL, NO_INTERVAL)
     put_legend(figure, drawing, put_list(figure, drawing, every, bottom))
     return figure
 
@@ -107,105 +98,38 @@ def described(timeline: Timeline, every: dict[int, Row]) -> str:
     return " ".join(said)
 
 
-def positions_of(timeline: Timeline, rows: Mapping[int, Row], names: dict[str, str], width: float) -> Positions:
+def positions_of(known: Known, rows: Mapping[int, Row], dates: Sequence[Dated], width: float) -> Positions:
     """Where the places are, with a stretch before the first and after the last one if some bar reaches there."""
-    known = timeline.known
     before = int(any(known.lower[2 * number] is None for number in rows))
     after = int(any(known.upper[2 * number + 1] is None for number in rows))
-    named = [*dates_of(timeline, rows, names), *gaps_of(timeline, rows, names)]
-    needs = [(before + one.start, before + one.end, measured(MONTH.sub(short_month, one.name), LABEL) + 5) for one in named]
-    found = [EDGE + place for place in spread(needs, before + len(known.axis) + after, width - 2 * EDGE)]
+    count = before + len(known.axis) + after
+    # Gaps have room for their names only if dates have it too, and these are set in two lines if that helps.
+    own = [one for one in dates if one.number is not None]
+    for some, lines in ((dates, 1), (own, 1), (own, 2)):
+        needs = [(before + one.start, before + one.end, one.room(lines)) for one in some]
+        found = [EDGE + place for place in spread(needs, count, width - 2 * EDGE)]
+        if all(found[end] - found[start] > need - 0.1 for start, end, need in needs):
+            break
     return Positions(found[before : before + len(known.axis)], EDGE, width - EDGE)
 
 
-@dataclass(frozen=True)
-class Dated:
-    """A stretch of the axis that has a name of the calendar: its first and last place, its name, and its date, unless it is between two."""
-
-    start: int
-    end: int
-    name: str
-    number: int | None = None
-
-
-def dates_of(timeline: Timeline, rows: Mapping[int, Row], names: dict[str, str]) -> list[Dated]:
-    """The exact dates that are on the axis, the longest ones first."""
-    found = []
-    for number, row in rows.items():
-        start, end = timeline.known.place(2 * number), timeline.known.place(2 * number + 1)
-        if row.kind == "exact" and start is not None and end is not None:
-            found.append(Dated(start, end, names[row.name], number))
-    return sorted(found, key=lambda one: (one.start - one.end, one.start))
-
-
-def gaps_of(timeline: Timeline, rows: Mapping[int, Row], names: dict[str, str]) -> list[Dated]:
-    """The stretches of the axis between dates that no date covers."""
-    found: list[Dated] = []
-    end, last = len(timeline.known.axis), -1
-    for one in sorted(dates_of(timeline, rows, names), key=lambda one: one.start):
-        assert one.number is not None
-        if end < one.start:
-            found.append(Dated(end, one.start, between_dates(rows[last], rows[one.number], names)))
-        end, last = (one.end, one.number) if last < 0 or one.end > end else (end, last)
-    return found
-
-
-def names_of_dates(rows: Sequence[Row]) -> dict[str, str]:
-    """The dates by the calendar. A year that all have is said of the first one alone."""
-    names = {row.name: row.dates() for row in rows}
-    years = {found[1] if (found := YEAR.search(name)) else "" for name in names.values()}
-    if len(names) > 1 and len(years) == 1 and years != {""}:
-        first = next(iter(names))
-        return {name: said if name == first else YEAR.sub("", said) for name, said in names.items()}
-    return names
-
-
-def short_month(found: re.Match[str]) -> str:
-    """The name of a month in three letters."""
-    return found[0][:3]
-
-
-def put_dates(drawing: Drawing, names: dict[str, str]) -> float:
+def put_dates(drawing: Drawing, dates: Sequence[Dated]) -> float:
     """The dates in lanes, the longest ones above, and the gaps of the calendar between them. Answers where the axis is."""
-    places = drawing.places
-    named = [*dates_of(drawing.timeline, drawing.rows, names), *gaps_of(drawing.timeline, drawing.rows, names)]
-    stretches = [(places[one.start], places[one.end]) for one in named]
-    texts = [placed_name(stretch, one.name, drawing.width) for stretch, one in zip(stretches, named, strict=True)]
-    lanes = packed(
-        [(min(begin, x), max(begin + measured(text, LABEL), right)) for (x, right), (text, begin) in zip(stretches, texts, strict=True)]
-    )
-    axis = EDGE + (max(lanes, default=-1) + 1) * BAND + 2
-    for one, lane, (x, right), (text, begin) in zip(named, lanes, stretches, texts, strict=True):
-        y = EDGE + lane * BAND
+    stretches = [(drawing.places[one.start], drawing.places[one.end]) for one in dates]
+    names = [name_of(one, *stretch, drawing.width) for one, stretch in zip(dates, stretches, strict=True)]
+    lanes = packed([name.reach(*stretch) for name, stretch in zip(names, stretches, strict=True)])
+    highs = {lane: max(name.high() for name, other in zip(names, lanes, strict=True) if other == lane) for lane in sorted(lanes)}
+    *tops, bottom = accumulate(highs.values(), initial=EDGE)
+    for one, name, lane, (x, right) in zip(dates, names, lanes, stretches, strict=True):
+        box = Box(x, tops[lane], right - x, highs[lane], "exact")
         if one.number is not None:
             row = drawing.rows[one.number]
-            drawing.bars[one.number] = Box(x, y, right - x, BAND, "exact", name=row.name, said=drawing.said(row))
-            drawing.front.append(drawing.bars[one.number])
-        else:
-            drawing.front += broken((x + right) / 2, axis)
-        drawing.front.append(Text(begin, y + 7.3, text, LABEL, colour=GREY if one.number is None else BLACK))
-    if places:
-        drawing.behind.append(Line(((EDGE, axis), (drawing.width - EDGE, axis)), 0.6, arrow=True))
-    return axis
-
-
-def placed_name(stretch: tuple[float, float], name: str, width: float) -> tuple[str, float]:
-    """The name of a date, with short months if it has not enough room, and where it begins: in its stretch, or beyond it."""
-    begin, end = stretch
-    text = name if measured(name, LABEL) + 2 <= end - begin else MONTH.sub(short_month, name)
-    broad = measured(text, LABEL)
-    if broad + 1 <= end - begin:
-        return text, (begin + end - broad) / 2
-    return text, max(min(begin + 1, width - EDGE - broad), EDGE)
-
-
-def between_dates(first: Row, second: Row, names: dict[str, str]) -> str:
-    """How the stretch between two dates is called: by these if they are whole days or more, else by the calendar."""
-    one, other = (YEAR.sub("", names[row.name]) for row in (first, second))
-    if "," in one + other or not (one and other):
-        return stretch(first.civil[1], second.civil[0])
-    month = other.rpartition(" ")[2]
-    return f"between {one.removesuffix(f' {month}')} and {other}"
+            box = drawing.bars[one.number] = replace(box, name=row.name, said=drawing.said(row))
+        drawing.front += [box] if one.number is not None else broken((x + right) / 2, bottom + 2)
+        drawing.front += name.shapes(box, GREY if one.number is None else BLACK)
+    if drawing.places:
+        drawing.behind.append(Line(((EDGE, bottom + 2), (drawing.width - EDGE, bottom + 2)), 0.6, arrow=True))
+    return bottom + 2
 
 
 def broken(x: float, y: float) -> list[Shape]:
@@ -215,12 +139,14 @@ def broken(x: float, y: float) -> list[Shape]:
 
 def put_places(drawing: Drawing, every: dict[int, Row], top: float, bottom: float) -> None:
     """An upright line for each place; that of a date is darker, and reaches up to it."""
-    dates = [number for number, bar in drawing.bars.items() if bar.filling == "exact"]
-    dated = {drawing.timeline.known.place(point) for number in dates for point in (2 * number, 2 * number + 1)}
-    for place, (x, points) in enumerate(zip(drawing.places, drawing.timeline.known.axis, strict=True)):
+    known, dates = drawing.timeline.known, [(number, bar) for number, bar in drawing.bars.items() if bar.filling == "exact"]
+    ends = [(bar.y + bar.height, known.place(point)) for number, bar in dates for point in (2 * number, 2 * number + 1)]
+    # Of several dates at a place the highest one comes last.
+    tops = {place: high for high, place in sorted(ends, key=lambda end: -end[0])}
+    for place, (x, points) in enumerate(zip(drawing.places, known.axis, strict=True)):
         said = " ".join(f"{every[point // 2].name}{'+' if point % 2 else '-'}" for point in points)
-        width, colour = (0.5, LIGHT) if place in dated else (0.35, PALE)
-        drawing.behind.insert(0, Line(((x, top), (x, bottom)), width, colour, kind="place", points=said))
+        width, colour = (0.5, LIGHT) if place in tops else (0.35, PALE)
+        drawing.behind.insert(0, Line(((x, tops.get(place, top)), (x, bottom)), width, colour, kind="place", points=said))
 
 
 def put_bars(drawing: Drawing, top: float, one_each: bool) -> float:
@@ -239,8 +165,8 @@ def put_bars(drawing: Drawing, top: float, one_each: bool) -> float:
     lanes = list(range(len(numbers))) if one_each else packed(extents, below)
     first = top + 7
     for number, lane, (text, begin) in zip(numbers, lanes, labels, strict=True):
-        put_bar(drawing, number, first + lane * PITCH, text, begin)
-    return first + (max(lanes, default=-1) + 1) * PITCH - (PITCH - BAR) + 4
+        put_bar(drawing, number, first + lane * drawing.pitch, text, begin)
+    return first + (max(lanes, default=-1) + 1) * drawing.pitch - drawing.pitch / 3 + 4
 
 
 def ended_before(numbers: Sequence[int], orders: Collection[Order]) -> dict[int, set[int]]:
@@ -248,7 +174,7 @@ def ended_before(numbers: Sequence[int], orders: Collection[Order]) -> dict[int,
     found: dict[int, set[int]] = {number: set() for number in numbers}
     for one in orders:
         first, second = one.first // 2, one.second // 2
-        if is_whole(one) and first in found and second in found:
+        if one.is_whole() and first in found and second in found:
             found[second].add(first)
     return found
 
@@ -264,11 +190,6 @@ def in_order(before: Mapping[int, set[int]]) -> list[int]:
         found.append(numbers[first])
         sorter.done(numbers[first])
     return found
-
-
-def is_whole(order: Order) -> bool:
-    """Whether an order puts a whole interval before another one: its end before the start of that."""
-    return order.first % 2 == 1 and order.second % 2 == 0
 
 
 def placed_label(extent: Extent, label: str, width: float) -> tuple[str, float]:
@@ -288,28 +209,25 @@ def placed_label(extent: Extent, label: str, width: float) -> tuple[str, float]:
 def put_bar(drawing: Drawing, number: int, y: float, text: str, begin: float) -> None:
     """One bar: its outline, its solid part, its marks, and its label."""
     row, extent = drawing.rows[number], drawing.extents[number]
-    left, right = extent.outer
-    filling = row.filling()
-    said = drawing.said(row)
-    rounded = min(BAR / 2, (right - left) / 2) if row.kind == "event" else 0.0
-    outline = Box(
-        left, y, right - left, BAR, filling, 0.0 if any(extent.is_open) else min(rounded, 2.5), True, extent.is_open, row.name, said
-    )
+    (left, right), high, filling = extent.outer, 2 * drawing.pitch / 3, row.filling()
+    rounded = min(high / 2, (right - left) / 2) if row.kind == "event" else 0.0
+    corner = 0.0 if any(extent.is_open) else min(rounded, 2.5)
+    outline = Box(left, y, right - left, high, filling, corner, True, extent.is_open, row.name, drawing.said(row))
     drawing.bars[number] = outline
     is_exact = extent.solid == extent.outer and not any(extent.is_open)
     parts: list[Shape] = [] if is_exact else [outline]
     if extent.solid is not None:
-        parts.append(
-            Box(extent.solid[0], y, extent.solid[1] - extent.solid[0], BAR, filling, rounded if is_exact else 0.0, name=row.name, said=said)
-        )
+        begun, ended = extent.solid
+        solid = replace(outline, x=begun, width=ended - begun, round=rounded if is_exact else 0.0, hollow=False, is_open=(False, False))
+        parts.append(solid)
     if extent.begun is not None:
-        parts.append(Line(((extent.begun, y), (extent.begun, y + 4)), 1.4, kind="begun"))
+        parts.append(Line(((extent.begun, y), (extent.begun, y + 0.4 * high)), 1.4, kind="begun"))
     if extent.not_ended is not None:
-        parts.append(Line(((extent.not_ended, y + BAR), (extent.not_ended, y + BAR - 4)), 1.4, kind="not-ended"))
+        parts.append(Line(((extent.not_ended, y + high), (extent.not_ended, y + 0.6 * high)), 1.4, kind="not-ended"))
     drawing.behind += parts
     is_inside = extent.solid is not None and extent.solid[0] <= begin and begin + measured(text, LABEL) <= extent.solid[1]
     halo = not (is_inside and filling == "event")
-    drawing.front.append(Text(begin, y + 7.3, text, LABEL, slanted=bool(row.unasserted), halo=halo))
+    drawing.front.append(Text(begin, y + high / 2 + 0.36 * LABEL, text, LABEL, slanted=bool(row.unasserted), halo=halo))
 
 
 def line_of(drawing: Drawing, order: Order) -> list[Shape]:
@@ -317,21 +235,21 @@ def line_of(drawing: Drawing, order: Order) -> list[Shape]:
     if order.first // 2 not in drawing.bars or order.second // 2 not in drawing.bars:
         return []
     kind, look = LINES[order.sign]
-    look = replace(look, kind=kind, bent=True, arrow=look.arrow or is_whole(order))
+    look = replace(look, kind=kind, bent=True, arrow=look.arrow or order.is_whole())
     one, other = drawing.bars[order.first // 2], drawing.bars[order.second // 2]
     start, end = anchors(third(one, order.first, order), third(other, order.second, order), len(drawing.lines))
     if one.y == other.y:
-        lift = min(5.0, 2 + abs(end - start) * 0.06)
+        lift = min(drawing.pitch / 3, 2 + abs(end - start) * 0.06)
         return [replace(look, way=((start, one.y), (start, one.y - lift), (end, other.y - lift), (end, other.y)))]
     is_below = other.y > one.y
-    from_y, to_y = one.y + (BAR if is_below else 0), other.y + (0 if is_below else BAR)
+    from_y, to_y = one.y + (one.height if is_below else 0), other.y + (0 if is_below else other.height)
     bend = min(abs(to_y - from_y) * 0.6, 14.0) * (1 if is_below else -1)
     return [replace(look, way=((start, from_y), (start, from_y + bend), (end, to_y - bend), (end, to_y)))]
 
 
 def third(bar: Box, point: int, order: Order) -> tuple[float, float]:
     """Where a line may meet a bar: in the middle third for a whole interval, else in the third that is for the point."""
-    place = 1 if is_whole(order) else 2 * (point % 2)
+    place = 1 if order.is_whole() else 2 * (point % 2)
     margin = bar.width / 12
     return bar.x + place * bar.width / 3 + margin, bar.x + (place + 1) * bar.width / 3 - margin
 
@@ -345,39 +263,33 @@ def anchors(one: tuple[float, float], other: tuple[float, float], number: int) -
     return (one[1], other[0]) if one[1] < other[0] else (one[0], other[1])
 
 
-def put_list(figure: Figure, drawing: Drawing, every: dict[int, Row], y: float) -> float:
-    """The intervals that have no bound, each with its orders, in lines. Answers how far down they reach."""
+def put_list(figure: Figure, drawing: Drawing, every: Mapping[int, Row], y: float) -> float:
+    """The intervals that have no bound, each with its orders, in lines; or that there is none. Answers how far down the lines reach."""
     known = drawing.timeline.known
     if not known.listed:
-        return y
-    y = put_lines(figure, EDGE, y + 9, "Nothing says when:", bold=True)
-    said, x = of_listed(known, every), EDGE + 4
+        return y if every else figure.write(EDGE, EDGE + LABEL, NO_INTERVAL)
+    y = figure.write(EDGE, y + 9, "Nothing says when:", bold=True)
+    said, indent = of_listed(known, every), EDGE + 4
+    x = indent
     for number in known.listed:
         text = f"{named(every[number])}{': ' if said[number] else ''}{'; '.join(said[number])}"
         broad = measured(text, LABEL) + 8
-        if x > EDGE + 4 and x + broad > figure.width - EDGE:
-            x, y = EDGE + 4, y + LEADING
-        below = put_lines(figure, x, y, text, name=every[number].name)
-        x, y = (x + broad, y) if below - y < LEADING + 1 else (EDGE + 4, below)
-    return y + LEADING if x > EDGE + 4 else y
+        if x > indent and x + broad > figure.width - EDGE:
+            x, y = indent, y + LABEL + SKIP
+        below = figure.write(x, y, text, name=every[number].name)
+        x, y = (x + broad, y) if below - y < LABEL + SKIP + 1 else (indent, below)
+    return y + LABEL + SKIP if x > indent else y
 
 
 def of_listed(known: Known, every: Mapping[int, Row]) -> dict[int, list[str]]:
     """Of each listed interval its orders in words; one of two that are listed is said of the first."""
     found: dict[int, list[str]] = {number: [] for number in known.listed}
+    every = {number: replace(row, text=fitted(plain(row.text), BRIEF, LABEL)) for number, row in every.items()}
     for order in known.orders:
         ends = found.keys() & {order.first // 2, order.second // 2}
         if ends:
-            found[min(ends)].append(order_said(order, every))
+            found[min(ends)].append(said_of(min(ends), order, every))
     return found
-
-
-def put_lines(figure: Figure, x: float, y: float, text: str, *, size: float = LABEL, bold: bool = False, name: str = "") -> float:
-    """A text in lines from a height on. Answers where the next one goes."""
-    for line in in_lines(text, figure.width - EDGE - x, size):
-        figure.shapes.append(Text(x, y, line, size, bold=bold, name=name))
-        y += size + LEADING - LABEL
-    return y
 
 
 def kinds_in(figure: Figure) -> list[tuple[Shape, str]]:
@@ -385,7 +297,8 @@ def kinds_in(figure: Figure) -> list[tuple[Shape, str]]:
     kinds = {
         one.filling: one.hollow for one in sorted(figure.shapes, key=lambda one: not getattr(one, "hollow", False)) if isinstance(one, Box)
     }
-    return [(Box(0, -5, 9, 6, kind, hollow=kinds[kind]), said) for kind, said in KINDS.items() if kind in kinds]
+    said = KINDS | {"unasserted": "not asserted"}
+    return [(Box(0, -5, 9, 6, kind, hollow=kinds[kind]), words) for kind, words in said.items() if kind in kinds]
 
 
 def put_legend(figure: Figure, drawing: Drawing, y: float) -> None:
@@ -407,14 +320,14 @@ def put_legend(figure: Figure, drawing: Drawing, y: float) -> None:
     )
     items = kinds_in(figure) + [(sign, said) for is_there, sign, said in table if is_there]
     y = put_items(figure, items, y + 6)
-    are_whole = {is_whole(one) for one in drawing.timeline.known.orders if {one.first // 2, one.second // 2} <= drawing.bars.keys()}
+    are_whole = {one.is_whole() for one in drawing.timeline.known.orders if {one.first // 2, one.second // 2} <= drawing.bars.keys()}
     ends = [
         said
         for whole, said in ((False, "left third of a bar: its start; right: its end"), (True, "middle: end to start"))
         if whole in are_whole
     ]
     if ends:
-        y = put_lines(figure, EDGE, y + 9.5, f"Lines at the {'; '.join(ends)}.", size=SMALL) - (SMALL + LEADING - LABEL)
+        y = figure.write(EDGE, y + 9.5, f"Lines at the {'; '.join(ends)}.", size=SMALL) - SMALL - SKIP
     figure.height = y + 4
 
 
@@ -426,7 +339,7 @@ def put_items(figure: Figure, items: Sequence[tuple[Shape, str]], y: float) -> f
         if x > EDGE and x + broad > figure.width - EDGE:
             x, y = EDGE, y + 9.5
         figure.shapes.append(moved(shape, x, y))
-        y = put_lines(figure, x + 12, y, said, size=SMALL) - (SMALL + LEADING - LABEL)
+        y = figure.write(x + 12, y, said, size=SMALL) - SMALL - SKIP
         x += broad + 7
     return y
 

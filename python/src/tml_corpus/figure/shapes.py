@@ -1,11 +1,16 @@
-"""What a picture for a paper is made of, before it is SVG or TeX. All lengths are in points of 1/72 inch; heights grow downwards."""
+"""What a picture is made of, before it is SVG or TeX. All lengths are in points of 1/72 inch; heights grow downwards."""
 
 from __future__ import annotations
 
 from dataclasses import dataclass, field
 
+from ..timeline.lettering import in_lines
+
 LABEL, SMALL = 6.5, 6.0
 """The sizes of letters."""
+
+EDGE, SKIP = 3.0, 2.2
+"""What is free at the edges of a picture, and between two lines of text."""
 
 BLACK, GREY = "#000000", "#595959"
 
@@ -52,6 +57,13 @@ class Box:
     def texture(self) -> str:
         """The texture of its filling, if it has one."""
         return "" if self.hollow else FILLINGS[self.filling][1]
+
+    def frame(self) -> list[list[Point]]:
+        """The lines of its frame, which has no side where it is open."""
+        left, right, bottom = self.x, self.x + self.width, self.y + self.height
+        above, below = [(right, self.y), (left, self.y)], [(left, bottom), (right, bottom)]
+        below += [] if self.is_open[1] else [(right, self.y)]
+        return [above, below] if self.is_open[0] else [above + below]
 
 
 @dataclass(frozen=True)
@@ -104,3 +116,10 @@ class Figure:
 
     axis: float = 0.0
     """How far down the dates reach, which stay in sight if what is below them is scrolled."""
+
+    def write(self, x: float, y: float, text: str, right: float = 0.0, *, size: float = LABEL, bold: bool = False, name: str = "") -> float:
+        """Writes a text in lines from a height on, up to the right edge or another one. Answers where the next line goes."""
+        for line in in_lines(text, (right or self.width - EDGE) - x, size):
+            self.shapes.append(Text(x, y, line, size, bold=bold, name=name))
+            y += size + SKIP
+        return y

@@ -2,8 +2,6 @@
 
 from __future__ import annotations
 
-from collections.abc import Callable, Mapping
-
 from tml.markup import Markup, element, lined, svg_file
 
 from .shapes import BLACK, GREY, Box, Figure, Line, Shape, Text
@@ -24,23 +22,22 @@ def on_screen(figure: Figure) -> Markup:
     return drawing(figure, width=two(2 * figure.width), height=two(2 * figure.height), style="background:#fff")
 
 
-def drawing(figure: Figure, **size: str) -> Markup:
-    """The picture as an element."""
+def drawing(figure: Figure, prefix: str = "box", **size: str) -> Markup:
+    """The picture as an element. What it refers to has names with a prefix, which tells it from that of other pictures."""
     broad, high = two(figure.width), two(figure.height)
     said = element("desc", figure.said) if figure.said else None
-    content = lined(element("title", figure.title), said, *(drawn(shape, number) for number, shape in enumerate(figure.shapes)))
+    shapes = (drawn(shape, f"{prefix}{number}") for number, shape in enumerate(figure.shapes))
+    content = lined(element("title", figure.title), said, *shapes)
     size = size or {key: f"{length / POINTS_OF_MILLIMETRE:.2f}mm" for key, length in (("width", figure.width), ("height", figure.height))}
     shared = {"viewBox": f"0 0 {broad} {high}", "role": "img", "font_family": FONT}
     return element("svg", "\n", content, **size, **shared)
 
 
-def drawn(shape: Shape, number: int) -> Markup:
-    """A shape as an element. Its number tells it from others."""
+def drawn(shape: Shape, name: str) -> Markup:
+    """A shape as an element. A name tells it from others."""
     if isinstance(shape, Box):
-        return drawn_box(shape, f"box{number}")
-    if isinstance(shape, Line):
-        return drawn_line(shape)
-    return drawn_text(shape)
+        return drawn_box(shape, name)
+    return drawn_line(shape) if isinstance(shape, Line) else drawn_text(shape)
 
 
 def drawn_text(text: Text) -> Markup:
@@ -58,16 +55,17 @@ def drawn_text(text: Text) -> Markup:
 
 def drawn_box(box: Box, name: str) -> Markup:
     """A rectangle: its filling, its texture, and its frame. It is in a group with the name of its interval, if it is a part of one."""
-    colour, texture = box.colour(), box.texture()
+    colour = box.colour()
     places = {"x": two(box.x), "y": two(box.y), "width": two(box.width), "height": two(box.height)}
     places |= {"rx": two(box.round)} if box.round else {}
     frame = {"stroke": GREY if box.hollow else BLACK, "stroke_width": "0.5"}
     if any(box.is_open):
-        parts = [element("rect", **places, fill=colour), element("path", d=open_frame(box), fill="none", **frame)]
-    elif texture:
+        way = "".join("M" + "L".join(f"{two(x)} {two(y)}" for x, y in line) for line in box.frame())
+        parts = [element("rect", **places, fill=colour), element("path", d=way, fill="none", **frame)]
+    elif box.texture():
         clip = element("clipPath", element("rect", **places), id=name)
-        ink = {"stroke": "#FFFFFF", "stroke_width": "1.1" if texture == "dots" else "0.5"}
-        marks = element("path", d=TEXTURES[texture](box), clip_path=f"url(#{name})", fill="none", stroke_linecap="round", **ink)
+        ink = {"stroke": "#FFFFFF", "stroke_width": "1.1" if box.texture() == "dots" else "0.5"}
+        marks = element("path", d=texture(box), clip_path=f"url(#{name})", fill="none", stroke_linecap="round", **ink)
         parts = [clip, element("rect", **places, fill=colour), marks, element("rect", **places, fill="none", **frame)]
     else:
         parts = [element("rect", **places, fill=colour, **frame)]
@@ -79,37 +77,20 @@ def drawn_box(box: Box, name: str) -> Markup:
     return element("g", said, *parts, class_=f"{part} {box.filling}{sides}", data_interval=box.name)
 
 
-def open_frame(box: Box) -> str:
-    """The frame of a rectangle without the sides at which it is open."""
-    (left, right), end, bottom = box.is_open, two(box.x + box.width), two(box.y + box.height)
-    first = f"M{end} {two(box.y)}H{two(box.x)}{'M' + two(box.x) + ' ' + bottom if left else 'V' + bottom}H{end}"
-    return first if right else f"{first}V{two(box.y)}"
+def texture(box: Box) -> str:
+    """The marks of a texture. A browser would print patterns of SVG as dots, so they are lines; a dot has round ends and no length."""
+    rows = [two(y) for y in steps(box.y + 1.5, box.y + box.height, 3)]
+    if box.texture() == "lines":
+        return "".join(f"M{two(box.x)} {y}h{two(box.width)}" for y in rows)
+    if box.texture() == "dots":
+        return "".join(f"M{two(x)} {y}h0" for y in rows for x in steps(box.x + 1.5, box.x + box.width, 3))
+    bottom, way = two(box.y + box.height), f"l{two(box.height)} {two(-box.height)}"
+    return "".join(f"M{two(x)} {bottom}{way}" for x in steps(box.x - box.height, box.x + box.width, 2.5))
 
 
 def steps(first: float, last: float, by: float) -> list[float]:
     """Numbers from one to another."""
     return [first + by * number for number in range(1 + int((last - first) / by))]
-
-
-# Patterns of SVG would be made of dots where a browser prints, so textures are lines.
-def lines(box: Box) -> str:
-    """Lines that lie."""
-    return "".join(f"M{two(box.x)} {two(y)}h{two(box.width)}" for y in steps(box.y + 1.5, box.y + box.height, 3))
-
-
-def strokes(box: Box) -> str:
-    """Lines that lean."""
-    bottom, way = two(box.y + box.height), f"l{two(box.height)} {two(-box.height)}"
-    return "".join(f"M{two(x)} {bottom}{way}" for x in steps(box.x - box.height, box.x + box.width, 2.5))
-
-
-def dots(box: Box) -> str:
-    """Dots, which are lines without a length and with round ends."""
-    rows = steps(box.y + 1.5, box.y + box.height, 3)
-    return "".join(f"M{two(x)} {two(y)}h0" for y in rows for x in steps(box.x + 1.5, box.x + box.width, 3))
-
-
-TEXTURES: Mapping[str, Callable[[Box], str]] = {"lines": lines, "strokes": strokes, "dots": dots}
 
 
 def drawn_line(line: Line) -> Markup:
@@ -139,4 +120,4 @@ def head(line: Line) -> tuple[tuple[float, float], ...]:
 
 def two(value: float) -> str:
     """A number with two decimals at most."""
-    return f"{value:.2f}".rstrip("0").rstrip(".").replace("-0", "0") if abs(value) < 0.005 else f"{value:.2f}".rstrip("0").rstrip(".")
+    return f"{round(value, 2) + 0.0:.12g}"

@@ -2,7 +2,7 @@
 
 from __future__ import annotations
 
-from .shapes import BLACK, GREY, Box, Figure, Line, Shape, Text
+from .shapes import BLACK, GREY, Box, Figure, Line, Point, Shape, Text
 from .svg_form import two
 
 HEAD = r"""% Made by tml-corpus timeline --bare. Compile it alone, or take the tikzpicture into a document with the same packages.
@@ -61,9 +61,7 @@ def drawn(shape: Shape) -> list[str]:
     """A shape as commands."""
     if isinstance(shape, Box):
         return drawn_box(shape)
-    if isinstance(shape, Line):
-        return [drawn_line(shape)]
-    return drawn_text(shape)
+    return [drawn_line(shape) if isinstance(shape, Line) else drawn_text(shape)]
 
 
 def drawn_box(box: Box) -> list[str]:
@@ -76,15 +74,18 @@ def drawn_box(box: Box) -> list[str]:
     parts += [f"\\fill[{shape}pattern={PATTERNS[texture]},pattern color={ink}] {corners};"] if texture else []
     if not any(box.is_open):
         return [*parts, f"\\draw[{shape}{name_of(GREY if box.hollow else BLACK)},line width=0.5bp] {corners};"]
-    (left, right), end, bottom = box.is_open, two(box.x + box.width), two(box.y + box.height)
-    side = "  " if left else " -- "
-    way = f"({end},{two(box.y)}) -- ({two(box.x)},{two(box.y)}){side}({two(box.x)},{bottom}) -- ({end},{bottom})"
-    return [*parts, f"\\draw[{name_of(GREY)},line width=0.5bp] {way}{'' if right else f' -- ({end},{two(box.y)})'};"]
+    way = "  ".join(" -- ".join(map(placed, line)) for line in box.frame())
+    return [*parts, f"\\draw[{name_of(GREY)},line width=0.5bp] {way};"]
+
+
+def placed(point: Point) -> str:
+    """A point as TikZ has it."""
+    return f"({two(point[0])},{two(point[1])})"
 
 
 def drawn_line(line: Line) -> str:
     """A line, with a head or a dot at its end."""
-    first, *others = (f"({two(x)},{two(y)})" for x, y in line.way)
+    first, *others = map(placed, line.way)
     way = f"{first} .. controls {others[0]} and {others[1]} .. {others[2]}" if line.bent else " -- ".join([first, *others])
     words = [name_of(line.colour), f"line width={two(line.width)}bp"]
     words += ["dash pattern=on 1.6bp off 1.2bp"] if line.dashed else []
@@ -92,13 +93,13 @@ def drawn_line(line: Line) -> str:
     return f"\\draw[{','.join(words)}] {way};"
 
 
-def drawn_text(text: Text) -> list[str]:
+def drawn_text(text: Text) -> str:
     """A text, on white where it has a halo."""
     series = f"{chr(92) + 'bfseries' if text.bold else ''}{chr(92) + 'itshape' if text.slanted else ''}"
     font = f"\\fontsize{{{two(text.size)}bp}}{{{two(text.size * 1.2)}bp}}\\selectfont\\sffamily{series}"
     halo = ",fill=cFFFFFF" if text.halo else ""
     words = f"anchor={ANCHORS[text.anchor]},inner sep={'1bp' if text.halo else '0bp'},text={name_of(text.colour)}{halo},font={font}"
-    return [f"\\node[{words}] at ({two(text.x)},{two(text.y)}) {{{escaped(text.text)}}};"]
+    return f"\\node[{words}] at {placed((text.x, text.y))} {{{escaped(text.text)}}};"
 
 
 def escaped(text: str) -> str:

@@ -9,12 +9,7 @@ from __future__ import annotations
 
 ARCS = """
 const LANE = 18;
-const arcs = document.createElementNS(SVG, "svg");
-const part = (name, attributes) => {
-  const made = document.createElementNS(SVG, name);
-  Object.entries(attributes).forEach(([key, value]) => made.setAttribute(key, value));
-  return made;
-};
+const arcs = part("svg", { class: "arcs", "aria-hidden": "true" });
 const placesOf = (wanted) => {
   const [frame, high] = [text.getBoundingClientRect(), parseFloat(getComputedStyle(text).lineHeight)];
   const boxes = new Map();

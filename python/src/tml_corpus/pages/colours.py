@@ -1,4 +1,4 @@
-"""The colours of pages, for light and for dark screens, and which stand on which: a test reads that each pair has contrast."""
+"""The colours of pages, for light and for dark screens. A test reads that each has contrast to those that it is seen on."""
 
 from __future__ import annotations
 
@@ -30,18 +30,6 @@ DARK = {
     "touch": "#f0b95c",
     "link": "#f09cc8",
 }
-
-PAIRS = tuple(
-    (colour, ground)
-    for ground, colours in (
-        ("paper", ("ink", "soft", "strong", "wrong", "good", "touch", "link")),
-        ("odd", ("ink", "soft", "strong", "wrong", "good", "touch", "link")),
-        ("near", ("ink", "soft", "strong", "wrong", "link")),
-        ("mark", ("ink", "strong")),
-    )
-    for colour in colours
-)
-"""Which colours stand on which. Lines that part things and carry no meaning are not among them."""
 
 
 def variables() -> str:

@@ -75,16 +75,16 @@ def not_examined(found: Found, problem: str) -> Examined:
 def examine_document(program: Program, found: Found, document: bytes, wanted: Wanted) -> Examined:
     """Asks about a document in memory: `tml solve` first, which tells a fault too."""
     reply = program.ask(["solve", "-"], document)
-    if not is_timeline(reply):
-        report = report_of(program, found, document, wanted, reply)
-        if not report.judgement.accepted():
-            return Examined(report)
-        examined = with_counts(report, Wording(program, document))
-        return with_timeline(examined, touching_timeline(program, found.path, document)) if report.verdict() == TOUCHING else examined
-    wording = Wording(program, document)
-    warnings = placed_warnings(program, wording.source, wanted.lint) if wanted.lint is not None else []
-    examined = with_counts(ClashReport(Judgement(found.path, warnings=warnings)), wording)
-    return with_timeline(examined, verified(program, found.path, document, reply))
+    if is_timeline(reply):
+        wording = Wording(program, document)
+        warnings = placed_warnings(program, wording.source, wanted.lint) if wanted.lint is not None else []
+        report = ClashReport(Judgement(found.path, warnings=warnings))
+        return counted_in(report, wording, verified(program, found.path, document, reply))
+    report = report_of(program, found, document, wanted, reply)
+    if not report.judgement.accepted():
+        return Examined(report)
+    timeline = touching_timeline(program, found.path, document) if report.verdict() == TOUCHING else None
+    return counted_in(report, Wording(program, document), timeline)
 
 
 def touching_timeline(program: Program, path: str, document: bytes) -> Timeline:
@@ -93,19 +93,15 @@ def touching_timeline(program: Program, path: str, document: bytes) -> Timeline:
     return verified(program, path, copy, program.ask(["solve", "-"], copy))
 
 
-def with_counts(report: ClashReport, wording: Wording) -> Examined:
-    """An accepted document with what can be counted without a timeline."""
-    relations = Counter(relation for _, relation, _ in wording.source.links)
-    return Examined(report, wording, Counts(len(wording.intervals), len(wording.link_tags), len(free_dates(wording)), relations))
-
-
-def with_timeline(examined: Examined, timeline: Timeline) -> Examined:
-    """The same with a timeline that fits, and the decided pairs."""
-    matrix, counts = timeline.matrix, examined.counts
-    if counts is None:
-        return examined
-    decided = sum(len(matrix.sets[number]) == 1 for number in matrix.cells)
-    return replace(examined, timeline=timeline, counts=replace(counts, pairs=len(matrix.cells), decided=decided))
+def counted_in(report: ClashReport, wording: Wording, timeline: Timeline | None) -> Examined:
+    """An accepted document with what is counted in it: pairs only if there is a timeline."""
+    counts = Counts(len(wording.intervals), len(wording.link_tags), len(free_dates(wording)))
+    counts.relations.update(relation for _, relation, _ in wording.source.links)
+    if timeline is not None:
+        matrix = timeline.matrix
+        decided = sum(len(matrix.sets[number]) == 1 for number in matrix.cells)
+        counts = replace(counts, pairs=len(matrix.cells), decided=decided)
+    return Examined(report, wording, counts, timeline)
 
 
 def free_dates(wording: Wording) -> list[str]:

@@ -2,27 +2,33 @@
 
 from __future__ import annotations
 
+from collections.abc import Sequence
+
 from tml.markup import NOTHING, Child, Markup, element, html_file, lined, together
 
 from ..timeline.lettering import plain
 
-POLICY = "default-src 'none'; style-src 'self'; script-src 'self'; base-uri 'none'; form-action 'none'"
-"""Styles and scripts of files beside the page alone."""
+POLICY = "style-src 'self'; script-src 'self'; base-uri 'none'; form-action 'none'"
+"""Styles and scripts of files next to the page alone."""
+
+
+def page_file(title: str, policy: str, head: Sequence[Markup], *body: Child) -> str:
+    """A page as a file, which is XML too. It loads only what its policy names."""
+    content = lined(
+        element("meta", charset="utf-8"),
+        element("meta", http_equiv="Content-Security-Policy", content=f"default-src 'none'; {policy}"),
+        element("meta", name="viewport", content="width=device-width, initial-scale=1"),
+        element("title", plain(title)),
+        *head,
+    )
+    parts = lined(element("head", "\n", content), element("body", "\n", lined(*body)))
+    return html_file(element("html", "\n", parts, xmlns="http://www.w3.org/1999/xhtml", lang="en"))
 
 
 def framed(title: str, script: str, *content: Child, top: str = "") -> str:
-    """A page as a file, which loads the style and a script that lie in the folder above."""
-    head = lined(
-        element("meta", charset="utf-8"),
-        element("meta", http_equiv="Content-Security-Policy", content=POLICY),
-        element("meta", name="viewport", content="width=device-width, initial-scale=1"),
-        element("title", plain(title)),
-        element("link", rel="stylesheet", href=f"{top}report.css"),
-        element("script", src=f"{top}{script}", defer=""),
-    )
-    body = element("body", "\n", lined(element("main", "\n", lined(*content))))
-    parts = lined(element("head", "\n", head), body)
-    return html_file(element("html", "\n", parts, xmlns="http://www.w3.org/1999/xhtml", lang="en"))
+    """A page as a file, which loads the style and a script that are in the folder above."""
+    loaded = element("link", rel="stylesheet", href=f"{top}report.css"), element("script", src=f"{top}{script}", defer="")
+    return page_file(title, POLICY, loaded, element("main", "\n", lined(*content)))
 
 
 def isolated(text: str) -> Markup:

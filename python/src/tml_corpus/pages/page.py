@@ -4,6 +4,7 @@ from __future__ import annotations
 
 import os
 from collections.abc import Iterable, Iterator
+from functools import partial
 
 from tml.markup import NOTHING, Markup, Value, element, lined, together
 from tml.places import Place
@@ -14,6 +15,7 @@ from ..clash.report import PlacedClash, PlacedLink
 from ..clash.walk_words import WalkStep, steps_in_words
 from ..document.words import Wording
 from ..figure import of_clash, of_timeline
+from ..figure.draw import NARROW
 from ..figure.html_form import in_page, in_words
 from ..figure.svg_form import drawing
 from ..files.finding import counted
@@ -161,15 +163,15 @@ def reading(examined: Examined, wording: Wording, words: Words) -> Markup:
 def timeline_part(timeline: Timeline, words: Words, touching: bool) -> Markup:
     """The timeline, and its intervals, each of which leads to its word."""
     note = element("p", "Links between dates that touch are read here as the relation that holds.") if touching else NOTHING
-    figure = of_timeline.figure_of(timeline, BESIDE, with_said=True)
-    return section("timeline", "Timeline", note, in_page(figure), in_words(timeline, "a", lambda place, row: leading(words, place, row)))
+    figures = (of_timeline.figure_of(timeline, width, with_said=True) for width in (NARROW, BESIDE))
+    return section("timeline", "Timeline", note, in_page(*figures), in_words(timeline, "a", partial(leading, words)))
 
 
 def leading(words: Words, place: int, row: Row) -> dict[str, Value]:
     """What makes an interval of the timeline lead to its word in the text."""
     word = words.identifier(row.name)
     leads = {"class_": "leading", "href": f"#{word}", "data_word": word}
-    return {"id": f"bar{place}", **leads, "data_links": len(row.linked()), "aria_label": plain(row.description().split("\n", 1)[0])}
+    return {"id": f"bar{place}", **leads, "data_links": len(row.linked()), "aria_label": plain(row.heading())}
 
 
 def notes_on_links(examined: Examined) -> dict[int, list[str]]:

@@ -1,6 +1,36 @@
-"""The part of the scripts of a report that makes one stop of the tabulator of each group of links, buttons or words."""
+"""What scripts of pages share: parts of a page, intervals with their bars, and one stop of the tabulator of each group."""
 
 from __future__ import annotations
+
+PARTS = """
+const byId = (name) => document.getElementById(name);
+const part = (name, attributes) => {
+  const made = document.createElementNS("http://www.w3.org/2000/svg", name);
+  Object.entries(attributes).forEach(([key, value]) => made.setAttribute(key, value));
+  return made;
+};
+const line = (words, kind) => {
+  const made = document.createElement("div");
+  made.textContent = words;
+  if (kind) made.className = kind;
+  return made;
+};
+const isShown = (one) => one.getClientRects().length > 0;
+// The intervals below a picture, what their titles said, and each with the parts of pictures that are of it.
+const rows = Array.from(document.querySelectorAll(".row"));
+const texts = rows.map((row) => row.title.split("\\n"));
+const parts = new Map(rows.map((row) => [row.dataset.interval, [row]]));
+document.querySelectorAll(".picture [data-interval]").forEach((one) => {
+  one.querySelectorAll("title").forEach((title) => title.remove());
+  parts.get(one.dataset.interval).push(one);
+});
+rows.forEach((row) => row.removeAttribute("title"));
+let marked = [];
+const mark = (one, name) => {
+  if (one) (parts.get(one.dataset.interval) || [one]).forEach((part) => { part.classList.add(name); marked.push(part); });
+};
+const clear = () => { marked.forEach((one) => one.classList.remove("on", "near")); marked = []; };
+"""
 
 STOPS = """
 const KEYS = { ArrowUp: -1, ArrowLeft: -1, ArrowDown: 1, ArrowRight: 1 };

@@ -58,9 +58,7 @@ columns:26em}#panel div{break-inside:avoid;padding-left:1.4em;text-indent:-1.4em
 PICTURE = """
 .picture{max-height:60vh;margin-bottom:8px}.rows{max-height:30vh;overflow:auto}
 @media (min-width:60em){.leading.event .around{display:none}}
-.leading:focus{outline:3px solid var(--strong);outline-offset:-3px}
-.leading.on,.leading:target,.leading:focus{background:var(--mark)}.leading.near{background:var(--near)}
-.leading.on .name,.leading.on .around,.leading:focus .name,.leading:focus .around,.leading:target .name{color:var(--ink)}
+.leading:target,.leading:focus{background:var(--mark)}.leading:is(:focus,:target) :is(.name,.around){color:var(--ink)}
 """
 
 PRINTED = """

@@ -26,16 +26,11 @@ MOST_LINES = re.compile(r"\n\s*\n")
 
 @dataclass(frozen=True)
 class Word:
-    """One marked word: where its tag begins, its number, its kind, and the names of its intervals."""
+    """One marked word: its name in the page, its kind, and the names of its intervals."""
 
-    start: int
-    number: int
+    identifier: str
     kind: str
     intervals: tuple[str, ...]
-
-    def identifier(self) -> str:
-        """Its name in the page."""
-        return f"word{self.number}"
 
 
 class Words:
@@ -48,14 +43,14 @@ class Words:
             tag = wording.tag_of(name)
             if tag is not None:
                 of_tags.setdefault(tag.start, []).append(name)
-        found = [Word(start, number, kind, tuple(of_tags.get(start, ()))) for number, (start, kind) in enumerate(sorted(tags))]
-        self.by_start = {word.start: word for word in found}
-        self.by_interval = {name: word for word in found for name in word.intervals}
+        numbered = enumerate(sorted(tags))
+        self.by_start = {start: Word(f"word{number}", kind, tuple(of_tags.get(start, ()))) for number, (start, kind) in numbered}
+        self.by_interval = {name: word for word in self.by_start.values() for name in word.intervals}
 
     def identifier(self, interval: str) -> str:
         """The name in the page of the word of an interval; nothing where it has none."""
         word = self.by_interval.get(interval)
-        return word.identifier() if word else ""
+        return word.identifier if word else ""
 
 
 def marked_text(wording: Wording, words: Words, bars: Mapping[str, int]) -> Markup:
@@ -117,7 +112,7 @@ def mark(wording: Wording, word: Word | None, name: str, bars: Mapping[str, int]
     before, after = tags(
         "a" if is_leading else "span",
         class_=" ".join(["mark", word.kind, *date[:1]]),
-        id=word.identifier(),
+        id=word.identifier,
         data_intervals=" ".join(word.intervals),
         data_bars=" ".join(map(str, rows)) if rows else None,
         href=f"#bar{rows[0]}" if is_leading else None,

@@ -49,6 +49,10 @@ class Placed:
     changes: tuple[PlacedNote, ...] = ()
     """How links between dates that touch were read."""
 
+    def by_number(self) -> dict[int, PlacedInterval]:
+        """The intervals by their numbers in the document."""
+        return dict(zip(self.order, self.intervals, strict=True))
+
     def counts(self) -> str:
         """How many intervals and links there are."""
         return f"{counted(len(self.intervals), 'interval')}, {counted(len(self.wording.link_tags), 'link')}"

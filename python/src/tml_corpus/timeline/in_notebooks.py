@@ -9,7 +9,8 @@ from tml.lines import Ranks
 
 from ..asking.program import Program, Reply, believed
 from ..document.words import Wording
-from ..figure.draw import SCREEN, timeline_figure
+from ..figure import of_timeline
+from ..figure.draw import SCREEN
 from ..figure.svg_form import on_screen
 from ..files.finding import counted
 from .timeline import Choices, timeline_of
@@ -39,4 +40,4 @@ def picture(content: bytes, ranks: Iterable[Ranks], by: Answerer) -> str:
     program = Answering(by)
     wording = Wording(program, content)
     timeline = timeline_of(program, counted(len(wording.intervals), "interval"), wording, list(ranks), Choices())
-    return on_screen(timeline_figure(timeline, SCREEN, False)).text
+    return on_screen(of_timeline.figure_of(timeline, SCREEN.width, with_said=True)).text

@@ -44,6 +44,10 @@ class Order:
     sign: str
     second: int
 
+    def is_whole(self) -> bool:
+        """Whether it puts a whole interval before another one: its end before the start of that."""
+        return self.first % 2 == 1 and self.second % 2 == 0
+
 
 @dataclass(frozen=True)
 class Known:

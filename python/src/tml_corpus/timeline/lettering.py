@@ -3,7 +3,9 @@
 from __future__ import annotations
 
 import unicodedata
+from bisect import bisect_right
 from functools import lru_cache
+from itertools import accumulate
 
 from tml.markup import JOINERS, printed
 
@@ -42,25 +44,33 @@ def share(character: str) -> float:
         return next((room for first, last, room in BROAD if first <= ord(character) <= last), 1.05)
     if character in NARROW:
         return 0.4
-    return 0.95 if character in "mwMW@%\u2026" else 0.75 if character.isupper() else 0.64
+    return 1.0 if character in "mwMW@%\u2026" else 0.84 if character in "<>+=~#&" else 0.79 if character.isupper() else 0.64
 
 
 def fitted(text: str, room: float, size: float) -> str:
     """The text, cut with an ellipsis where it takes more room."""
     if measured(text, size) <= room:
         return text
-    left = room / size - share("\u2026")
-    for place, character in enumerate(text):
-        left -= share(character)
-        if left < 0:
-            return text[:place].rstrip(" " + JOINERS) + "\u2026"
-    return text
+    return text[: fitting(text, room / size - share("\u2026"))].rstrip(" " + JOINERS) + "\u2026"
+
+
+def fitting(text: str, shares: float) -> int:
+    """How many characters of a text have the room, in parts of the size of the font, with the marks that belong to the last one."""
+    return bisect_right(list(accumulate(map(share, text))), shares)
+
+
+def broken(word: str, shares: float) -> list[str]:
+    """A word in parts, each as long as the room, in parts of the size of the font."""
+    parts = [word]
+    while len(parts[-1]) > (count := max(fitting(parts[-1], shares), 1)):
+        parts[-1:] = parts[-1][:count], parts[-1][count:]
+    return parts
 
 
 def in_lines(text: str, room: float, size: float) -> list[str]:
-    """A text in lines that have the room, broken between words."""
+    """A text in lines that have the room, broken between words, and within a word that has not enough room in a line."""
     lines = [""]
-    for word in text.split():
+    for word in (part for word in text.split() for part in broken(word, room / size)):
         longer = f"{lines[-1]} {word}".strip()
         if measured(longer, size) <= room or not lines[-1]:
             lines[-1] = longer

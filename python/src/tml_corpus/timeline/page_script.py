@@ -2,63 +2,49 @@
 
 from __future__ import annotations
 
-SCRIPT = """
+from ..pages.stops_script import PARTS, STOPS
+
+TEXT = """
 "use strict";
-const byId = (name) => document.getElementById(name);
-const [panel, drawn, order, search] = ["links", "drawn", "order", "search"].map(byId);
-const [partners, possible, links, inText] = ["partners", "possible", "ends", "intext"].map((name) => JSON.parse(byId(name).textContent));
-const rows = Array.from(document.querySelectorAll(".row"));
-const texts = rows.map((row) => row.title);
-const labels = texts.map((text) => text.split("\\n", 1)[0].replace(/: [^:]*$/, ""));
+@PARTS@
+@STOPS@
+const [panel, order, search] = ["links", "order", "search"].map(byId);
+const [possible, links, inText] = ["possible", "ends", "intext"].map((name) => JSON.parse(byId(name).textContent));
+const labels = texts.map(([heading]) => heading.replace(/: [^:]*$/, ""));
 const seen = rows.map((row) => row.textContent.toLowerCase());
-const places = new Map(rows.map((row, place) => [row.dataset.interval, place]));
-const bars = rows.map(() => []);
-drawn.querySelectorAll("[data-interval]").forEach((part) => bars[places.get(part.dataset.interval)].push(part));
+const bars = rows.map((row) => parts.get(row.dataset.interval).slice(1));
+const linksOf = (place) => links.filter(([left, , right]) => left !== right ? [left, right].includes(place) : false);
 let sequence = rows.map((row, place) => place);
-let marked = [];
 let shown = null;
 let pinned = null;
-const shape = (name, values) => {
-  const part = document.createElementNS("http://www.w3.org/2000/svg", name);
-  Object.entries(values).forEach(([key, value]) => part.setAttribute(key, value));
-  return part;
-};
-const arrow = shape("marker", { id: "arrow", markerWidth: 7, markerHeight: 7, refX: 6, refY: 3, orient: "auto" });
-arrow.append(shape("path", { d: "M0 0L6 3L0 6z" }));
-const over = shape("g", { "aria-hidden": "true", "pointer-events": "none" });
-drawn.append(arrow, over);
+const arrow = part("marker", { id: "arrow", markerWidth: 7, markerHeight: 7, refX: 6, refY: 3, orient: "auto" });
+arrow.append(part("path", { d: "M0 0L6 3L0 6z" }));
+const over = part("g", { "aria-hidden": "true", "pointer-events": "none" });
 const middle = (place) => {
-  const box = bars[place][0].getBBox();
+  const box = bars[place].find(isShown).getBBox();
   return [box.x + box.width / 2, box.y + box.height / 2];
 };
 const curve = ([left, , right]) => {
   const [[x, y], [toX, toY]] = [middle(left), middle(right)];
   const bend = (y + toY) / 2;
-  return shape("path", { class: "link", d: `M${x} ${y}C${x} ${bend} ${toX} ${bend} ${toX} ${toY}`, "marker-end": "url(#arrow)" });
+  return part("path", { class: "link", d: `M${x} ${y}C${x} ${bend} ${toX} ${bend} ${toX} ${toY}`, "marker-end": "url(#arrow)" });
 };
 const named = (other, relations) => {
   const [x, y] = middle(other);
-  const part = shape("text", { class: "relation", x: x + 5, y: y + 2 });
-  part.textContent = [...new Set(relations)].join(", ");
-  return part;
+  const made = part("text", { class: "relation", x: x + 5, y: y + 2 });
+  made.textContent = [...new Set(relations)].join(", ");
+  return made;
 };
 const drawLinks = (place) => {
-  const joins = ([left, , right]) => left !== right ? [left, right].includes(place) : false;
-  const touching = links.filter((one) => joins(one) ? [one[0], one[2]].every((end) => bars[end].length) : false);
+  const touching = linksOf(place).filter(([left, , right]) => [left, right].every((end) => bars[end].some(isShown)));
   const others = new Map(touching.map(([left, , right]) => [left === place ? right : left, []]));
   touching.forEach(([left, relation, right]) => others.get(left === place ? right : left).push(relation));
   over.replaceChildren(...touching.map(curve), ...[...others].map(([other, relations]) => named(other, relations)));
-};
-const mark = (place, name) => [rows[place], ...bars[place]].forEach((one) => { one.classList.add(name); marked.push(one); });
-const line = (text, kind) => {
-  const part = document.createElement("div");
-  part.textContent = text;
-  if (kind) part.className = kind;
-  return part;
+  [...document.querySelectorAll(".drawn > svg")].filter(isShown).forEach((one) => one.append(arrow, over));
 };
 const between = (place, other) => {
   const [first, second] = other > place ? [place, other] : [other, place];
-  const relations = possible.sets[possible.rows[first].charCodeAt(second - first - 1) - possible.first];
+  const relations = possible.sets[possible.rows[first][second - first - 1]];
   return first === place ? relations : relations.map((one) => possible.inverses[one]).sort((a, b) => a - b);
 };
 const standing = (place) => {
@@ -78,14 +64,14 @@ const standing = (place) => {
 };
 const show = (place) => {
   if (shown === place) return;
-  marked.forEach((one) => one.classList.remove("on", "near"));
-  [marked, shown] = [[], place];
+  clear();
+  shown = place;
   const others = standing(place).map((text) => line(text, "open"));
-  panel.replaceChildren(...texts[place].split("\\n").map((text) => line(text)), line("What it can be to the others:", "open"), ...others);
+  panel.replaceChildren(...texts[place].map((text) => line(text)), line("What it can be to the others:", "open"), ...others);
   panel.scrollTop = 0;
-  mark(place, "on");
   drawLinks(place);
-  partners[place].forEach((other) => mark(other, "near"));
+  mark(rows[place], "on");
+  linksOf(place).forEach(([left, , right]) => mark(rows[left === place ? right : left], "near"));
 };
 const pin = (place) => {
   pinned = pinned === place ? null : place;
@@ -93,32 +79,23 @@ const pin = (place) => {
   show(place);
 };
 const point = (place) => { if (pinned === null) show(place); };
+together(rows, () => sequence.map((place) => rows[place]).filter(isShown));
 rows.forEach((row, place) => {
-  const said = { role: "button", "aria-label": texts[place].split("\\n", 1)[0], "aria-pressed": "false" };
-  const words = { tabindex: place === 0 ? "0" : "-1", ...said };
-  Object.entries(words).forEach(([key, value]) => row.setAttribute(key, value));
-  row.removeAttribute("title");
-  bars[place].forEach((part) => part.setAttribute("aria-hidden", "true"));
-  bars[place].forEach((part) => part.querySelectorAll("title").forEach((one) => one.remove()));
+  const said = { role: "button", "aria-label": texts[place][0], "aria-pressed": "false" };
+  Object.entries(said).forEach(([key, value]) => row.setAttribute(key, value));
+  bars[place].forEach((one) => one.setAttribute("aria-hidden", "true"));
   [row, ...bars[place]].forEach((one) => {
     one.addEventListener("pointermove", () => point(place));
     one.addEventListener("click", () => pin(place));
   });
-  row.addEventListener("focus", () => {
-    rows.forEach((one) => one.setAttribute("tabindex", one === row ? "0" : "-1"));
-    point(place);
-  });
-  const step = (by) => () => sequence[sequence.indexOf(place) + by];
-  const ends = [["Home", () => sequence[0]], ["End", () => sequence[sequence.length - 1]]];
-  const goals = new Map([["ArrowUp", step(-1)], ["ArrowDown", step(1)], ...ends]);
+  row.addEventListener("focus", () => point(place));
   row.addEventListener("keydown", (event) => {
-    if (["Enter", " "].includes(event.key)) pin(place);
-    else if (!goals.has(event.key)) return;
+    if (!["Enter", " "].includes(event.key)) return;
     event.preventDefault();
-    const goal = goals.has(event.key) ? goals.get(event.key)() : undefined;
-    if (goal !== undefined) rows[goal].focus();
+    pin(place);
   });
 });
+window.addEventListener("resize", () => { if (shown !== null) drawLinks(shown); });
 order.addEventListener("click", () => {
   const isOn = order.getAttribute("aria-pressed") !== "true";
   order.setAttribute("aria-pressed", String(isOn));
@@ -146,3 +123,4 @@ search.addEventListener("keydown", (event) => {
 });
 byId("tools").hidden = false;
 """
+SCRIPT = TEXT.replace("@PARTS@", PARTS).replace("@STOPS@", STOPS)

@@ -11,23 +11,17 @@ from ..document.date_words import stretch
 from .known import Known
 from .lettering import plain
 
-KINDS = {
-    "exact": "time fixed by the calendar",
-    "within": "time within bounds of the calendar",
-    "free": "time without a date",
-    "event": "event",
-}
-"""The kinds of rows: those of `tml dates`, and events."""
+KINDS = {"event": "event", "exact": "date", "within": "time within a date", "free": "time without a date"}
+"""The kinds of rows: events, and those of `tml dates`."""
 
-
-NOT_ASSERTED = "event that the document does not assert"
+NOT_ASSERTED = "event not asserted"
 NOT_KNOWN = "nothing says when"
 NO_INTERVAL = "There is no interval: the document has no event instance and no time."
 
 
 @dataclass(frozen=True)
 class Row:
-    """One interval: its name, text and kind, its ranks, the civil texts of a time, its links in words, and the rows at their other ends."""
+    """One interval: its name, text and kind, its ranks, the civil texts of a time, and its links in words."""
 
     name: str
     text: str
@@ -36,7 +30,6 @@ class Row:
     finish: int
     civil: tuple[str, ...] = ()
     links: list[str] = field(default_factory=list)
-    partners: list[int] = field(default_factory=list)
     said: tuple[str, ...] = ()
     """When it starts and when it ends, as far as that is known, in sentences."""
 
@@ -50,7 +43,10 @@ class Row:
     """Why the document does not assert it, where it does not."""
 
     is_tied: bool = True
-    """Whether it has a bound on the axis."""
+    """Whether it has a bar: whether it has a bound on the axis, or in seconds some order."""
+
+    when: str = ""
+    """When it is placed, in seconds."""
 
     def dates(self) -> str:
         """When a time is by the calendar, in words. Nothing of an event."""
@@ -66,23 +62,23 @@ class Row:
         """Its whole text and its name."""
         return f"{plain(self.text)} ({self.name})" if plain(self.text) else self.name
 
-    def described(self, when: str = "") -> list[str]:
-        """What is known of it apart from its ends and links, in lines; the first one has its label, its kind and perhaps when it is."""
-        kind = NOT_ASSERTED if self.unasserted else KINDS[self.kind]
-        lines = [f"{self.label()}: {kind}{', ' if when else ''}{when}"]
+    def heading(self) -> str:
+        """Its label, its kind, and perhaps when it is."""
+        kind, when = NOT_ASSERTED if self.unasserted else KINDS[self.kind], self.when if self.is_tied else NOT_KNOWN
+        return f"{self.label()}: {kind}{', ' if when else ''}{when}"
+
+    def description(self) -> str:
+        """All that is known of it, in lines: its heading, the words around it, its dates, its start and end, and each of its links."""
+        lines = [self.heading()]
         lines += [self.around.sentence(plain(self.text))] if self.around != Around() else []
         lines += [f"not asserted: {plain(self.unasserted)}"] if self.unasserted else []
         if self.civil:
             lines.append(" to ".join(self.civil) + (", or a part of it" if self.kind == "within" else ""))
-        return lines
+        return "\n".join([*lines, *self.said, *self.linked()])
 
     def linked(self) -> list[str]:
         """Its links, in lines."""
         return [plain(link) for link in self.links] or ["no links"]
-
-    def description(self) -> str:
-        """All that is known of it, in lines: its whole text, dates, the words around it, its start and end, and each of its links."""
-        return "\n".join([*self.described("" if self.is_tied else NOT_KNOWN), *self.said, *self.linked()])
 
 
 @dataclass(frozen=True)
@@ -98,6 +94,10 @@ class Timeline:
 
     ends: tuple[tuple[int, str, int], ...] = ()
     """Of each link the rows of its ends, and between them its relation."""
+
+    def by_number(self) -> dict[int, Row]:
+        """The rows by the numbers of their intervals."""
+        return dict(zip(self.order, self.rows, strict=True))
 
     def in_text_order(self) -> list[int]:
         """The rows in the order of the text; last those that are listed."""

@@ -1,90 +1,61 @@
-"""A placing in whole seconds: rows over an axis of time that is true to scale."""
+"""A placing in whole seconds: an axis of time that is true to scale, and rows that say when they are placed."""
 
 from __future__ import annotations
 
-from dataclasses import dataclass, fields, replace
+from dataclasses import dataclass, replace
 
 from ..figure.shapes import SMALL
 from ..seconds.civil import civil, length
 from ..seconds.formats import span
 from ..seconds.placed import Placed, PlacedInterval
-from .axis import extent, marks
+from .axis import marks
 from .extents import Extent
 from .lettering import measured
-from .rows import NOT_KNOWN, Row, Timeline
+from .rows import Row, Timeline
 
 NARROWEST_BAR = 2.0
 
 
 @dataclass(frozen=True)
-class ScaledRow(Row):
-    """A row whose start and finish are seconds, with the earliest and the latest of each, where there are such."""
-
-    starts: tuple[int | None, int | None] = (None, None)
-    ends: tuple[int | None, int | None] = (None, None)
-
-    def description(self) -> str:
-        """All that is known of it, in lines: its whole text, when it is, how far it can move, and each of its links."""
-        if not self.is_tied:
-            return "\n".join(self.described(NOT_KNOWN) + self.linked())
-        lines = self.described(f"{civil(self.start)} to {civil(self.finish)}, {length(self.finish - self.start)}")
-        for end, second, limits in (("start", self.start, self.starts), ("end", self.finish, self.ends)):
-            if limits != (second, second):
-                lines.append(f"{end}: {span(*limits)}")
-        return "\n".join(lines + self.linked())
-
-
-@dataclass(frozen=True)
 class Seconds:
-    """An axis of seconds: where it begins in the picture, and the seconds at its edges."""
+    """An axis of seconds: its first and its last one, and where these are in a picture."""
 
-    left: float
     first: int
     last: int
-    title: str = "Placing of "
-    caption: str = (
-        "An axis of time in whole seconds. Bars stand where tml seconds placed them and tml confirm confirmed it: all links, dates and "
-        "lengths are met. Where an interval can start earlier or end later its bar is hollow, as far as that goes; it is open at a side "
-        "without a limit."
-    )
-    width: float = 0.0
-
-    @classmethod
-    def of(cls, timeline: Timeline, left: float, width: float) -> Seconds:
-        """The axis that a placing needs, which begins at a position and is so broad."""
-        first, last = extent([second for row in timeline.rows if row.is_tied for second in (row.start, row.finish)] or [0])
-        return cls(left, first, last, width=width)
+    left: float
+    right: float
 
     def x(self, second: int) -> float:
-        """Where a second stands; one beyond an edge at that edge."""
+        """Where a second is; one beyond an edge is at that edge."""
         inside = min(max(second, self.first), self.last)
-        return self.left + (inside - self.first) * self.width / (self.last - self.first)
+        return self.left + (inside - self.first) * (self.right - self.left) / (self.last - self.first)
 
     def marks(self) -> list[tuple[float, str]]:
         """The marks of the axis, as many as have room."""
-        most = int(self.width // (measured("0000-00-00 ", SMALL) + 8))
-        return [(self.x(mark.second), mark.text) for mark in marks(self.first, self.last, most)]
+        most = int((self.right - self.left) // (measured("0000-00-00 ", SMALL) + 8))
+        return [(self.x(second), text) for second, text in marks(self.first, self.last, most)]
 
-    def extent(self, row: Row) -> Extent:
-        """The bar of a row: solid where it is placed, and hollow where it can be too."""
-        start, finish = self.x(row.start), self.x(row.finish)
-        solid = start, max(finish, start + NARROWEST_BAR)
-        earliest, latest = (row.starts[0], row.ends[1]) if isinstance(row, ScaledRow) else (row.start, row.finish)
+    def extent(self, one: PlacedInterval) -> Extent:
+        """The bar of an interval: solid where it is placed, and hollow where it can be too."""
+        begin, (earliest, latest) = self.x(one.start), (one.starts[0], one.ends[1])
+        solid = begin, max(self.x(one.end), begin + NARROWEST_BAR)
         left = self.left if earliest is None else self.x(earliest)
-        right = self.left + self.width if latest is None else self.x(latest)
+        right = self.right if latest is None else self.x(latest)
         # What is shorter than a point is not seen.
         outer = left if left < solid[0] - 1 else solid[0], right if right > solid[1] + 1 else solid[1]
         return Extent(outer, (earliest is None, latest is None), solid)
 
 
-def scaled_row(row: Row, one: PlacedInterval, is_tied: bool) -> Row:
-    """A row with how far it can move."""
-    tied = replace(row, is_tied=is_tied)
-    return ScaledRow(**{field.name: getattr(tied, field.name) for field in fields(Row)}, starts=one.starts, ends=one.ends)
+def placed_row(row: Row, one: PlacedInterval, is_tied: bool) -> Row:
+    """A row that says when it is placed and how far each of its ends can move, if some order ties it."""
+    limits = (("start", one.start, one.starts), ("end", one.end, one.ends))
+    said = tuple(f"{end}: {span(*ends)}" for end, second, ends in limits if ends != (second, second))
+    when = f"{civil(one.start)} to {civil(one.end)}, {length(one.end - one.start)}"
+    return replace(row, is_tied=is_tied, when=when, said=said if is_tied else ())
 
 
-def with_ranges(timeline: Timeline, found: Placed) -> Timeline:
-    """The rows with how far each can move; listed are only those without any order."""
-    intervals, untied = dict(zip(found.order, found.intervals, strict=True)), timeline.known.untied()
-    rows = [scaled_row(row, intervals[number], number not in untied) for row, number in zip(timeline.rows, timeline.order, strict=True)]
+def in_seconds(timeline: Timeline, placed: Placed) -> Timeline:
+    """The rows of a placing; only those without any order are listed."""
+    intervals, untied = placed.by_number(), timeline.known.untied()
+    rows = [placed_row(row, intervals[number], number not in untied) for number, row in timeline.by_number().items()]
     return replace(timeline, rows=rows, known=replace(timeline.known, listed=sorted(untied), orders=[]))

@@ -9,6 +9,8 @@ from .lettering import plain
 from .rows import Row
 
 VERBS = {"<": "is before", "≤": "is never after", "=": "is"}
+SIDES = {"<": ("before", "after"), "≤": ("not after", "not before"), "=": ("at", "at")}
+"""Of each sign how its first point is to the second one, and how the second one is to the first."""
 
 
 def called(row: Row) -> str:
@@ -79,3 +81,13 @@ def neighbours(known: Known, rows: Mapping[int, Row], number: int) -> set[int]:
 def order_said(order: Order, rows: Mapping[int, Row]) -> str:
     """An order in words."""
     return f"{point_called(rows, order.first)} {VERBS[order.sign]} {point_called(rows, order.second)}"
+
+
+def said_of(number: int, order: Order, rows: Mapping[int, Row]) -> str:
+    """An order of one of its two intervals in words that do not name it."""
+    is_first = order.first // 2 == number
+    own, other = (order.first, order.second) if is_first else (order.second, order.first)
+    how = SIDES[order.sign][not is_first]
+    if order.is_whole() and order.sign == "<":
+        return f"{how} {named(rows[other // 2])}"
+    return f"{'ends' if own % 2 else 'starts'} {how} {point_called(rows, other)}"

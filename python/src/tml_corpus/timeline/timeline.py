@@ -6,34 +6,36 @@ The rows have the order of the least timeline that `tml solve` printed, once `tm
 from __future__ import annotations
 
 import os
-import re
 import sys
-from collections.abc import Sequence
+from collections.abc import Callable, Sequence
 from dataclasses import dataclass, replace
+from functools import partial
 
-from tml.replies import EVIDENCE
+from tml.lines import Evidence
 
 from ..asking.program import ACCEPTED, CannotRun, Program, Reply
 from ..asking.room import room_for
 from ..clash.clashes import verify_timeline
 from ..clash.fitting import Unfit, fitting
 from ..clash.report import PlacedClash
+from ..clash.walk_words import steps_in_words
 from ..command_line.statuses import Status
 from ..document.around import Around, Text, text_around
 from ..document.asserted import AssertedCopy, asserted_copy, unasserted
 from ..document.words import Wording
-from ..figure.draw import FORMS as BARE_FORMS
-from ..figure.draw import PAGE, SCREEN, UNITS, Paper, clash_figure, fault_figure, placing_figure, timeline_figure, written
+from ..figure import of_clash, of_fault, of_placing, of_timeline
+from ..figure.draw import FORMS, NARROW, PAGE, SCREEN, UNITS, Paper, on_pages, written
 from ..figure.shapes import Figure
 from ..files.finding import CannotRead, counted, read_document, shown
 from ..files.replacing import replace_file
 from ..matrix.orders import PointOrders, base_relation
 from ..matrix.reading import NOT_FITTING, matrix_of
 from ..seconds.formats import change_lines, unplaced_lines
-from ..seconds.placed import Placed, Unplaced, document_placed
+from ..seconds.placed import Unplaced, document_placed
 from .known import Known
-from .page import page, still_page
+from .page import page
 from .rows import Row, Timeline
+from .scaled import in_seconds
 from .sentences import neighbours, sentences
 
 Ranks = tuple[int, int]
@@ -64,8 +66,8 @@ class Choices:
     context: bool = True
     """Whether the words around events stand beside them."""
 
-    paper: Paper | None = None
-    """How a picture for a paper is wanted, where it is."""
+    paper: Paper = SCREEN
+    """What the picture is for."""
 
 
 @dataclass(frozen=True)
@@ -80,7 +82,7 @@ class Drawn:
 def form_of(target: str) -> str:
     """The end of a file's name that says how to draw; other ends are refused. Standard output is SVG."""
     end = os.path.splitext(target)[1].lower() if target != STANDARD_OUTPUT else ".svg"
-    if end not in {*PAGES, *BARE_FORMS}:
+    if end not in {*PAGES, *FORMS}:
         raise ValueError(f"{target} ends in none of .svg, .html, .pdf and .tex")
     return end
 
@@ -110,21 +112,15 @@ def draw_placing(program: Program, path: str, target: str, choices: Choices) -> 
     document, copy = chosen(program, readable(path, target), choices)
     found = document_placed(program, path, document, choices.touching)
     if isinstance(found, Unfit):
-        return drawn_instead(program, path, target, found, choices)
+        return drawn_instead(program, path, target, found, choices.paper)
     if isinstance(found, Unplaced):
         return Drawn(change_lines(path, found) + unplaced_lines(path, found), Status.FINDING)
-    picture = picture_of_placing(program, path, target, found, choices)
-    return Drawn(change_lines(path, found) + drawn_line(path, target, f"{found.counts()}, in seconds", copy), Status.SUCCESS, picture)
-
-
-def picture_of_placing(program: Program, path: str, target: str, found: Placed, choices: Choices) -> str | bytes:
-    """The picture of a placing."""
-    from .scaled import with_ranges
-
-    seconds = dict(zip(found.order, ((one.start, one.end) for one in found.intervals), strict=True))
-    ranks = [seconds[number] for number in range(len(seconds))]
-    timeline = with_ranges(timeline_of(program, os.path.basename(path), found.wording, ranks, choices), found)
-    return picture_of(timeline, placing_figure(timeline, choices.in_text_order), target, SCREEN)
+    intervals = found.by_number()
+    ranks = [(intervals[number].start, intervals[number].end) for number in range(len(intervals))]
+    timeline = in_seconds(timeline_of(program, os.path.basename(path), found.wording, ranks, choices), found)
+    drawing = partial(of_placing.figure_of, timeline, intervals, one_each=choices.in_text_order)
+    said = change_lines(path, found) + drawn_line(path, target, f"{found.counts()}, in seconds", copy)
+    return Drawn(said, Status.SUCCESS, picture_of(drawing, target, SCREEN, timeline))
 
 
 def draw_document(program: Program, path: str, document: bytes, target: str, choices: Choices) -> Drawn:
@@ -132,41 +128,45 @@ def draw_document(program: Program, path: str, document: bytes, target: str, cho
     document, copy = chosen(program, document, choices)
     found = fitting(program, path, document, "drawn", choices.touching)
     if isinstance(found, Unfit):
-        return drawn_instead(program, path, target, found, choices)
-    timeline = verified(program, path, found.document, found.reply, choices)
-    places = counted(len(timeline.known.axis), "place")
+        return drawn_instead(program, path, target, found, choices.paper)
+    timeline, paper = verified(program, path, found.document, found.reply, choices), choices.paper
+    drawing = partial(of_timeline.figure_of, timeline, one_each=choices.in_text_order, with_said=paper.is_for_screen)
+    places, left_out = counted(len(timeline.known.axis), "place"), len(timeline.matrix.intervals) - len(timeline.rows)
     counts = f"{counted(len(timeline.rows), 'interval')}, {counted(len(timeline.ends), 'link')}, an axis of {places}"
-    paper, left_out = choices.paper or SCREEN, len(timeline.matrix.intervals) - len(timeline.rows)
-    figure = timeline_figure(timeline, paper, choices.in_text_order)
     counts += f"; {counted(left_out, 'interval')} left out" if left_out else ""
-    said = found.text + drawn_line(path, target, counts, copy) + too_high(path, figure, paper)
-    return Drawn(said, Status.SUCCESS, picture_of(timeline, figure, target, paper))
+    said = found.text + drawn_line(path, target, counts, copy)
+    if paper.is_for_screen:
+        return Drawn(said, Status.SUCCESS, picture_of(drawing, target, paper, timeline))
+    figure = on_pages(lambda pitch: drawing(paper.width, pitch=pitch))
+    return Drawn(said + too_high(path, figure), Status.SUCCESS, written(figure, paper))
 
 
-def too_high(path: str, figure: Figure, paper: Paper) -> str:
+def too_high(path: str, figure: Figure) -> str:
     """What is said of a picture for a paper that no page has room for."""
-    if paper.is_for_screen or figure.height <= PAGE:
+    if figure.height <= PAGE:
         return ""
     high = f"{figure.height / UNITS['mm']:.0f} mm"
     return f"{shown(path)}: {high} are more than a page has: choose intervals by --rows ei1,t1 or --around ei1 or --between t1 t2\n"
 
 
-def picture_of(timeline: Timeline, figure: Figure, target: str, paper: Paper) -> str | bytes:
-    """A picture as a page, or as a file of its own."""
-    return page(timeline, figure) if form_of(target) in PAGES else written(figure, paper)
+def picture_of(drawing: Callable[[float], Figure], target: str, paper: Paper, timeline: Timeline | None = None) -> str | bytes:
+    """A picture by its width as a page with a layout for narrow windows too, or as a file of its own."""
+    return page(drawing(NARROW), drawing(SCREEN.width), timeline) if form_of(target) in PAGES else written(drawing(paper.width), paper)
 
 
-def drawn_instead(program: Program, path: str, target: str, unfit: Unfit, choices: Choices) -> Drawn:
+def drawn_instead(program: Program, path: str, target: str, unfit: Unfit, paper: Paper) -> Drawn:
     """What is drawn of a document that no timeline fits: its first clash, or the place of its fault."""
-    if unfit.shown is None:
-        return undrawn(unfit)
-    title, paper = os.path.basename(path), choices.paper or SCREEN
-    if isinstance(unfit.shown, PlacedClash):
-        what, figure = "first clash", clash_figure(program, title, unfit.document, unfit.shown, paper.width)
-    else:
-        what, figure = "fault", fault_figure(title, unfit.document, unfit.shown, paper.width)
-    picture: str | bytes = still_page(figure) if form_of(target) in PAGES else written(figure, paper)
-    return Drawn(unfit.text + f"{shown(path)}: its {what} is drawn in {shown(target)}\n", unfit.status, picture)
+    title = os.path.basename(path)
+    match unfit.shown:
+        case None:
+            return undrawn(unfit)
+        case PlacedClash(walk=walk):
+            wording = Wording(program, unfit.document)
+            what, drawing = "first clash", partial(of_clash.figure_of, title, wording, steps_in_words(wording, walk))
+        case fault:
+            what, drawing = "fault", partial(of_fault.figure_of, title, unfit.document, fault)
+    said = f"{shown(path)}: its {what} is drawn in {shown(target)}\n"
+    return Drawn(unfit.text + said, unfit.status, picture_of(drawing, target, paper))
 
 
 def chosen(program: Program, document: bytes, choices: Choices) -> tuple[bytes, AssertedCopy | None]:
@@ -186,10 +186,7 @@ def drawn_line(path: str, target: str, counts: str, copy: AssertedCopy | None) -
 def verified(program: Program, path: str, document: bytes, reply: Reply, choices: Choices = Choices()) -> Timeline:
     """The timeline of a document, once `tml verify` said that what `tml solve` printed is one."""
     verify_timeline(program, document, reply)
-    found = re.fullmatch(EVIDENCE + rb"timeline \d+\n((?:at \d+ \d+\n)*)end\n", reply.text)
-    if found is None:
-        raise CannotRun("the answer of tml to `solve` cannot be read")
-    ranks = [(int(line[1]), int(line[2])) for line in map(bytes.split, found[1].splitlines())]
+    ranks = [(int(start), int(end)) for _, start, end in Evidence(reply.text).counted()]
     # Each rank of a least timeline is forced by a point at the rank before it, so none is left out.
     points = {point for pair in ranks for point in pair}
     if points and len(points) != max(points) + 1:
@@ -246,9 +243,8 @@ def linked(timeline: Timeline, wording: Wording) -> Timeline:
         if link.left in places and link.right in places:
             left, right = places[link.left], places[link.right]
             ends.append((left, link.relation, right))
-            for place, other in {left: right, right: left}.items():
+            for place in {left, right}:
                 timeline.rows[place].links.append(wording.in_words(link))
-                timeline.rows[place].partners.append(other)
     return replace(timeline, ends=tuple(ends))
 
 
@@ -261,31 +257,20 @@ def rows_of(wording: Wording, ranks: Sequence[Ranks]) -> list[Row]:
     """The rows of the intervals by their numbers, without their links."""
     tags = {tag.start for tag in map(wording.tag_of, wording.intervals) if tag is not None}
     text, reasons = text_around(wording.units, wording.document, tags), unasserted(wording)
-    rows = []
-    for number, pair in enumerate(ranks):
-        row = row_of(wording, number, pair)
-        rows.append(standing(wording, replace(row, unasserted=reasons.get(row.name, "")), text))
-    return rows
+    return [row_of(wording, name, *pair, text, reasons.get(name, "")) for name, pair in zip(wording.intervals, ranks, strict=True)]
 
 
-def standing(wording: Wording, row: Row, text: Text) -> Row:
-    """A row with its place in the document and, where it is an event, the words around it."""
-    tag = wording.tag_of(row.name)
-    if tag is None:
-        return row
-    return replace(row, place=tag.start, around=text.around(tag.start) if row.kind == "event" else Around())
-
-
-def row_of(wording: Wording, number: int, ranks: Ranks) -> Row:
-    """The row of one interval, without its links."""
-    name = wording.intervals[number]
-    date = wording.dates.get(name)
+def row_of(wording: Wording, name: str, start: int, finish: int, text: Text, reason: str) -> Row:
+    """The row of one interval, without its links. An event has the words around it, and perhaps a reason why it is not asserted."""
+    tag, date = wording.tag_of(name), wording.dates.get(name)
     if date is None and name in wording.tags["TIMEX3"]:
         raise CannotRun("the answers of tml to `check` and `dates` do not belong together")
     kind, *numbers = date or ["event"]
     if date and (kind, len(numbers)) not in (("exact", 4), ("within", 4), ("free", 0)):
         raise CannotRun("the answer of tml to `dates` cannot be read")
-    return Row(name, wording.whole_text_of(name), kind, *ranks, civil=tuple(numbers[2:]))
+    around = text.around(tag.start) if tag is not None and kind == "event" else Around()
+    place, civil = tag.start if tag is not None else 0, tuple(numbers[2:])
+    return Row(name, wording.whole_text_of(name), kind, start, finish, civil, place=place, around=around, unasserted=reason)
 
 
 def write_picture(target: str, picture: str | bytes) -> None:

@@ -36,12 +36,12 @@ returns-in-Verify-clause-reply g c = rw (c.in-Verify.is, two c.args.arguments.no
 pub returns-in-Some-clause-reply : goal.returns-in-Some-clause-reply
 returns-in-Some-clause-reply g c =
     let number = sym c.in-Some.is ∙ c.drill_number.ensures.number ∙ ap drill_number c.word-first.ensures in
-    rw (c.in-Drill.is, one c.args.arguments.now c.args.form form.Drill c.in-Drill.is c.requires refl, c.from_answer.ensures) (drill_replied _ _ _ _ _ (argument (texts_of c.args.arguments.now) 0) c.in-Some.n c.drill_summary.result number c.drill_summary.ensures refl)
+    rw (c.in-Drill.is, one c.args.arguments.now c.args.form form.Drill c.in-Drill.is c.requires refl, c.from_answer.ensures) (drill_replied g.I.Inputs.known _ (argument (texts_of c.args.arguments.now) 0) c.in-Some.n c.drill_summary.result number c.drill_summary.ensures)
 
 pub returns-in-None-clause-reply : goal.returns-in-None-clause-reply
 returns-in-None-clause-reply g c =
     let none = no_drill (argument (texts_of c.args.arguments.now) 0) (sym c.in-None.is ∙ c.drill_number.ensures.number ∙ ap drill_number c.word-first.ensures) in
-    rw (c.in-Drill.is, one c.args.arguments.now c.args.form form.Drill c.in-Drill.is c.requires refl) (usage_replied _ _ _ _ _ _ _ none c.usage_text.ensures refl)
+    rw (c.in-Drill.is, one c.args.arguments.now c.args.form form.Drill c.in-Drill.is c.requires refl) (usage_replied g.I.Inputs.known _ _ _ none c.usage_text.ensures)
 
 pub returns-in-Renew-clause-reply : goal.returns-in-Renew-clause-reply
 returns-in-Renew-clause-reply g c = rw (c.in-Renew.is, one c.args.arguments.now c.args.form form.Renew c.in-Renew.is c.requires refl) (rw c.word-first.ensures at c.reply_of_file-in-Renew.ensures.reply)

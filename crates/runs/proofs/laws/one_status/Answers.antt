@@ -1,0 +1,4 @@
+use Rattle.runs.proofs.laws.one_status.Goals as goal
+
+pub returns : goal.returns
+returns g c = λ words. (c.all_are_answered.ensures words).one_next
