@@ -54,12 +54,12 @@ cut_kind_and_place (BadReference place) = Some (fault.BadReference, place)
 cut_kind_and_place (BadMarkup place) = Some (fault.BadMarkup, place)
 cut_kind_and_place Memory = None
 
--- what a refusal says of the source
+-- what a refusal says of the source: it has this fault, or none and memory ran out
 abbrev pub HasCutFault : List ℕ → Cut → Type 0
 HasCutFault source (NotUtf8 place) = IsNotUtf8 source place
 HasCutFault source (BadReference place) = HasBadReference source place
 HasCutFault source (BadMarkup place) = HasBadMarkup source place
-HasCutFault source Memory = ⊤
+HasCutFault source Memory = CutsWhole source
 
 -- a source has one fault at most, and none where it is cut whole
 pub record OneFault (source : List ℕ) : Type 0 where
