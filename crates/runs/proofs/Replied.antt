@@ -1,7 +1,7 @@
 -- Replies by the files that were read for them, one after another.
-use Rattle.std.proofs.Common.{◌≡◌, ◌⊎◌, true, ℕ, ◌+◌, ◌≤◌, List, [], ◌∷◌, length, Result, Ok, Err, refl, sym, subst, ◌∙◌, inl, inr, Option, arith}
+use Rattle.std.proofs.Common.{◌≡◌, ◌⊎◌, true, ℕ, ◌+◌, ◌≤◌, List, [], ◌∷◌, ◌++◌, append-nil, append_assoc, length, Result, Ok, Err, refl, sym, ap, subst, ◌∙◌, inl, inr, Option, None, Some, arith}
 use Rattle.std.specs.Prelude.{IfOk}
-use Rattle.tml_io.specs.Files.{Files, CountsTaken, IsThere}
+use Rattle.tml_io.specs.Files.{Files, CountsTaken, IsThere, StartsSince}
 use Rattle.tml_io.specs.Known.{KnownInputs}
 use Rattle.runs.specs.declared.answer.Answer.{Answer}
 use Rattle.runs.specs.declared.answer.Finding.{Finding}
@@ -9,7 +9,7 @@ use Rattle.runs.specs.declared.answer.Finding.TheVariants as findings
 use Rattle.runs.specs.declared.reply.Reply.{Reply}
 use Rattle.runs.specs.declared.status.Status.{Status}
 use Rattle.runs.specs.declared.status.Status.TheVariants.{NoMemory, ReadFault, Usage}
-use Rattle.runs.specs.Reading.{AllThere, AreFirstContents, total_length}
+use Rattle.runs.specs.Reading.{AllThere, AreFirstContents, AreStarted, total_length}
 use Rattle.runs.specs.Replied.{AreRead, IsRead, IsReplyTo}
 use Rattle.runs.specs.Replies.{CannotRead, Replies}
 use Rattle.runs.specs.Rows.{File, Rows, answers, reads}
@@ -33,6 +33,18 @@ pub ends_by : {E : Type 0} (rows : Rows) (contents : List (List ℕ)) (r : Resul
     → EndsAfter rows contents (status_of (reply_of r)) (text_of (reply_of r))
 ends_by rows contents (Ok answer) row = record { ends = inl row; no_fault = answer_no_fault answer.finding }
 ends_by rows contents (Err error) row = record { ends = inr (refl, refl); no_fault = λ e. cc }
+
+-- no name was started
+none_started : (started : Option (List (List ℕ))) → StartsSince started started []
+none_started None = tt
+none_started (Some names) = sym (append-nil names)
+
+-- one name was started, and then another
+both_started : (before middle now : Option (List (List ℕ))) (name next : List ℕ) → StartsSince before middle (name ∷ []) → StartsSince middle now (next ∷ []) → StartsSince before now (name ∷ next ∷ [])
+both_started before middle None name next h k = tt
+both_started before None (Some now) name next h k = absurd k
+both_started None (Some middle) (Some now) name next h k = absurd h
+both_started (Some before) (Some middle) (Some now) name next h k = k ∙ ap (λ (names : List (List ℕ)). names ++ next ∷ []) h ∙ append_assoc before (name ∷ []) (next ∷ [])
 
 -- it is a reply
 replied : (known : Option Files) (rows : Rows) (contents : List (List ℕ)) (status : Status) (text : List ℕ) (taken : ℕ)
@@ -74,6 +86,7 @@ module _ {S : Type 0} (known : S → KnownInputs) (rows : Rows) where
   pub by_none : (now : S) (status : Status) (text : List ℕ) → EndsAfter rows [] status text → IsReplyTo known rows [] now now status text
   by_none now status text after = record {
     replies = (0, replied (known now).files rows [] status text 0 tt after (omega arith), omega arith);
+    started = ([], none_started (known now).started, tt);
     fault = λ e. absurd (after.no_fault e);
     no_fault = λ sound there. refl;
     untouched = λ none. refl;
@@ -85,6 +98,7 @@ module _ {S : Type 0} (known : S → KnownInputs) (rows : Rows) where
     pub by_failing : (reply : Reply) → IsRead first (Err reply) (known old) (known new) → IsReplyTo known rows (first.limit ∷ more) old new (status_of reply) (text_of reply)
     by_failing reply read = record {
       replies = (read.gives.0, stopped (known old).files rows [] first (status_of reply) (text_of reply) read.gives.0 read.gives.0 tt row read.gives.1 (omega arith), read.gives.2);
+      started = (first.name ∷ [], read.started, (first, row, refl));
       fault = read.fault;
       no_fault = λ sound there. read.no_fault sound (there first ([], tt, row));
       untouched = λ none. absurd (none first ([], tt, row));
@@ -96,6 +110,7 @@ module _ {S : Type 0} (known : S → KnownInputs) (rows : Rows) where
         → IsReplyTo known rows (first.limit ∷ more) old new status text
     by_one bytes status text read after = record {
       replies = (read.gives.0, replied (known old).files rows (bytes ∷ []) status text read.gives.0 (first, row, read.gives.1.0, tt) after (omega (arith, read.gives.1.1)), read.gives.2);
+      started = (first.name ∷ [], read.started, (first, row, refl));
       fault = λ e. absurd (after.no_fault e);
       no_fault = λ sound there. read.no_fault sound (there first ([], tt, row));
       untouched = λ none. absurd (none first ([], tt, row));
@@ -113,6 +128,13 @@ module _ {S : Type 0} (known : S → KnownInputs) (rows : Rows) where
           let is_there = subst (λ (files : Option Files). IsThere files second.name) (sym read.read.files) reached in
           then_read.no_fault (read.read.sound ∙ sound) is_there ∙ read.no_fault sound (there first ([], tt, row))
 
+      started : (result : Result (List ℕ) Reply) → IsRead second result (known mid) (known new) → (names : List (List ℕ)) × StartsSince (known old).started (known new).started names × AreStarted (known old).files rows names
+      started result then_read = (
+        first.name ∷ second.name ∷ [],
+        both_started (known old).started (known mid).started (known new).started first.name second.name read.started then_read.started,
+        (first, one, row, refl, read.gives.1.0, (second, next, refl)),
+      )
+
       both : (result : Result (List ℕ) Reply) → IsRead second result (known mid) (known new) → AreRead (first.limit ∷ second.limit ∷ []) (known old) (known new)
       both result then_read = both_read first.limit second.limit (known old) (known mid) (known new) read.read then_read.read (omega (arith, then_read.gives.2))
 
@@ -126,6 +148,7 @@ module _ {S : Type 0} (known : S → KnownInputs) (rows : Rows) where
               stopped (known old).files rows (one ∷ []) second (status_of reply) (text_of reply) gives.0 (read.gives.0 + gives.0) (first, row, read.gives.1.0, tt) next gives.1 (omega (arith, read.gives.1.1)),
               counted_on (known old).given (known mid).given (known new).given read.gives.0 gives.0 read.gives.2 gives.2,
             );
+            started = started (Err reply) then_read;
             fault = λ e. omega (arith, read.read.faults, then_read.fault e);
             no_fault = no_fault (Err reply) then_read;
             untouched = λ none. absurd (none first ([], tt, row));
@@ -143,6 +166,7 @@ module _ {S : Type 0} (known : S → KnownInputs) (rows : Rows) where
               replied (known old).files rows (one ∷ other ∷ []) status text (read.gives.0 + gives.0) (first, row, read.gives.1.0, (second, next, gives.1.0, tt)) after (omega (arith, read.gives.1.1, gives.1.1)),
               counted_on (known old).given (known mid).given (known new).given read.gives.0 gives.0 read.gives.2 gives.2,
             );
+            started = started (Ok other) then_read;
             fault = λ e. absurd (after.no_fault e);
             no_fault = no_fault (Ok other) then_read;
             untouched = λ none. absurd (none first ([], tt, row));

@@ -1,5 +1,5 @@
 -- The files that are read, one after another.
-use Rattle.std.specs.Prelude.{ℕ, ◌+◌, ◌≤◌, List, [], ◌∷◌, length, ⊤}
+use Rattle.std.specs.Prelude.{◌≡◌, ℕ, ◌+◌, ◌≤◌, List, [], ◌∷◌, length, ⊤}
 use Rattle.std.specs.declared.option.Option.{Option}
 use Rattle.tml_io.specs.Files.{Files, HasContents, IsThere}
 use Rattle.runs.specs.Rows.{File, Rows, reads, once_read}
@@ -16,6 +16,12 @@ AreFirstContents known rows (bytes ∷ rest) = (file : File) × rows [] (reads f
 -- it may come to reading this file
 abbrev pub Reached : Option Files → Rows → File → Type 0
 Reached known rows file = (contents : List (List ℕ)) × AreFirstContents known rows contents × rows contents (reads file)
+
+-- names are started in this order: each is that of the next file to be read, once the files of those before it were read whole
+abbrev pub AreStarted : Option Files → Rows → List (List ℕ) → Type 0
+AreStarted known rows [] = ⊤
+AreStarted known rows (name ∷ []) = (file : File) × rows [] (reads file) × (name ≡ file.name)
+AreStarted known rows (name ∷ next ∷ names) = (file : File) × (bytes : List ℕ) × rows [] (reads file) × (name ≡ file.name) × ReadsWhole known file bytes × AreStarted known (once_read bytes rows) (next ∷ names)
 
 -- it comes to reading no file
 abbrev pub NoneReached : Option Files → Rows → Type 0

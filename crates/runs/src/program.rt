@@ -49,7 +49,7 @@ pub fn run<P: Program, I: Inputs, S: Sink>(
     sink: &mut S,
 ) -> Status
     // There is a reply to the words: a status and a text. The bytes that were taken are those of the files that were read for
-    // it. No more calls read the files than their greatest lengths require, nor more than two for each file besides one for
+    // it, and no other names were started than those of files that are reached one after another, each once. No more calls read the files than their greatest lengths require, nor more than two for each file besides one for
     // each byte that was taken. A fault of reading is the reply only if the count of faults rose in this call, or has its
     // greatest value, and sound inputs fail nothing if each file that is reached is there. Inputs are untouched if no file is
     // reached. What is known of them stays known, and no count of faults falls.

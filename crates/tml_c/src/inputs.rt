@@ -32,12 +32,13 @@ impl<'c> TwoFiles<'c> {
 }
 
 impl Inputs for TwoFiles<'_> {
-    ghost use Rattle.std.specs.Prelude.{Some, true, refl};
+    ghost use Rattle.std.specs.Prelude.{None, Some, true, refl};
     ghost use Rattle.tml_c.specs.Given.{two_files};
 
     ghost known = { λ s. record {
       files = Some (two_files s.first.now s.second.now);
       left = Some s.left.now;
+      started = None;
       given = s.given;
       calls = 0;
       faults = s.faults;

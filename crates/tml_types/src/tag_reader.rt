@@ -89,10 +89,12 @@ impl<'s> TagReader<'s> {
     /// The fault that `reader` gives for the source; only where it has none the one that `tree_from` gives for its units,
     /// and only where they make a tree the one that `type_tags` gives for its tags: a fault of the cut anywhere comes
     /// before any fault of the tree, and that before any fault of a tag. So what is left is looked at where a unit is
-    /// refused or a tag is at fault. `Memory` may come at any place. After a fault nothing is said of the reader.
+    /// refused or a tag is at fault. `Memory` may come at any place. After a fault the reader has the same source, and how
+    /// much of it was read is unspecified.
     pub fn pull(&mut self, alloc: Global) -> Result<Option<TypedTag<'s>>, SourceFault>
         ensures gives { GivesTag self.old self.new result }
         ensures moves { MovesOn self.old self.new result }
+        ensures source { self.new.units.source ≡ self.old.units.source }
     {
         loop {
             let unit = match self.units.pull(alloc) {
@@ -136,6 +138,7 @@ impl<'s> TagReader<'s> {
     ) -> Result<Option<Unit<'s>>, SourceFault>
         ensures gives { GivesJudged self.old self.new tag.new result }
         ensures moves { MovesOn self.old self.new result }
+        ensures source { self.new.units.source ≡ self.old.units.source }
     {
         let unit = match self.units.pull(alloc) {
             Ok(Some(unit)) => unit,
@@ -195,7 +198,8 @@ impl<'s> TagReader<'s> {
 
     /// The fault of a source with a tag at fault: that of its cut or of its units, where one of those that are left has one.
     fn fault_with(&mut self, alloc: Global, fault: TypeFault) -> SourceFault
-        ensures { FaultsWith self.old fault result }
+        ensures fault { FaultsWith self.old fault result }
+        ensures source { self.new.units.source ≡ self.old.units.source }
     {
         loop {
             match self.units.pull(alloc) {

@@ -1,4 +1,4 @@
-use Rattle.std.proofs.Common.{◌∷◌, ◌≤◌, ◌++◌, [], List, Some, option_map, sym, ap, subst, ◌∙◌, arith}
+use Rattle.std.proofs.Common.{◌≡◌, ◌∷◌, ◌≤◌, ◌++◌, [], List, Some, option_map, sym, ap, subst, ◌∙◌, arith}
 use Rattle.tml_span.specs.Reader.{Reading}
 use Rattle.tml_span.specs.View.{unit_of}
 use Rattle.tml_tree.specs.Walking.{PlainTag, tag_of}
@@ -45,7 +45,7 @@ returns-in-Err-type_one-clause-gives c = λ source typed given.
     let begun = ap (option_map begun_tag) (sym c.in-Some.is) ∙ c.in-Ok-judge.ensures.begun in
     let fault = c.in-Err-type_one.fault in
     let comes = fault_comes typed (begun_tag c.in-Some.tag) fault (tag_of (unit_of c.in-Ok-Some.unit)) begun c.in-Err-type_one.ensures.err in
-    c.fault_with.ensures source _
+    c.fault_with.ensures.fault source _
     (reads_on c.loop-unit.self (c.loop-unit.invariant.stays source typed given).1 c.pull.new.self c.in-Ok-Some.unit gives (λ (tags : List PlainTag). HasTagFault tags fault) c.judge.new.nesting c.in-Ok-judge.ensures.ok comes)
 
 pub loop-unit-preserved-in-Ok-None-type_one : goal.loop-unit-preserved-in-Ok-None-type_one
@@ -62,6 +62,7 @@ loop-unit-preserved-in-Ok-None-type_one c =
                 (reads_on c.loop-unit.self (c.loop-unit.invariant.stays source typed given).1 c.pull.new.self c.in-Ok-Some.unit gives (AreTypedSo typed) c.judge.new.nesting c.in-Ok-judge.ensures.ok
                 (typed_same typed (begun_tag c.in-Some.tag) (tag_of (unit_of c.in-Ok-Some.unit)) begun yields)),
           );
+      source = subst (λ (units : Reading). units.source ≡ c.args.self.now.units.source) (sym c.take_back.ensures) (gives.0 ∙ c.loop-unit.invariant.source);
       moves = subst (λ (units : Reading). bytes_left (record { units = units; nesting = c.judge.new.nesting; names = c.type_one.new.room }) ≤ bytes_left c.args.self.now) (sym c.take_back.ensures)
           (omega (arith, fewer, c.loop-unit.invariant.moves));
     }
@@ -76,5 +77,6 @@ loop-unit-preserved c =
         reads_on c.loop-unit.self (c.loop-unit.invariant.stays source typed given).1 c.pull.new.self c.in-Ok-Some.unit gives (AreTypedSo typed) c.judge.new.nesting c.in-Ok-judge.ensures.ok
             (no_tag (AreTypedSo typed) (tag_of (unit_of c.in-Ok-Some.unit)) (ap (option_map begun_tag) (sym c.in_default.is) ∙ c.in-Ok-judge.ensures.begun)),
       );
+      source = gives.0 ∙ c.loop-unit.invariant.source;
       moves = omega (arith, fewer, c.loop-unit.invariant.moves);
     }

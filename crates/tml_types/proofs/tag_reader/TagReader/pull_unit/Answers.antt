@@ -66,5 +66,5 @@ returns-clause-gives c = λ source us typed given.
     let begun = ap (option_map begun_tag) (sym c.in-Some.is) ∙ c.in-Ok-judge.ensures.begun in
     let fault = c.in-Err-type_one.fault in
     let comes = fault_comes typed (begun_tag c.in-Some.begun) fault (tag_of (unit_of c.in-Ok-Some.unit)) begun c.in-Err-type_one.ensures.err in
-    c.fault_with.ensures source _
+    c.fault_with.ensures.fault source _
     (reads_on c.args.self.now given c.pull.new.self c.in-Ok-Some.unit gives (λ (tags : List PlainTag). HasTagFault tags fault) c.judge.new.nesting c.in-Ok-judge.ensures.ok comes)
