@@ -1,3 +1,4 @@
+pub mod Commands
 pub mod Documents
 pub mod Judged
 pub mod Lines

@@ -5,8 +5,9 @@ use Rattle.answers.specs.Lines.{line_prefix, link_line, numbered}
 use Rattle.tml_refs.specs.Documents.{PlainDocument, PlainInterval, interval_name}
 use Rattle.tml_refs.specs.declared.document.Counts.{Counts}
 use Rattle.tml_refs.specs.declared.document.DocLink.{DocLink}
-use Rattle.runs.specs.Rows.{Rows}
+use Rattle.runs.specs.Rows.{NeverFree, Rows}
 use Rattle.runs.specs.declared.status.Status.TheVariants.{Done}
+use Rattle.answers.specs.Commands.{Command, command, of_document}
 
 -- how many tags of each kind a document has
 abbrev pub count_lines : Counts → List ℕ
@@ -43,3 +44,7 @@ OfCheck contents other text = ⊥
 -- the rows of `check NAME`
 abbrev pub check_rows : List ℕ → Rows
 check_rows name = document_rows OfCheck name
+
+-- the command
+abbrev pub check : Command
+check = command (codes "check") (codes "DOC" ∷ []) (of_document (λ more. OfCheck) (λ more. NeverFree))

@@ -5,10 +5,11 @@ use Rattle.net_core.specs.declared.bounds.Bounds.{Bounds}
 use Rattle.net_core.specs.declared.bounds.Bounds.TheVariants.{Exact, Within, Free}
 use Rattle.net_build.specs.Built.{IntervalBounds}
 use Rattle.answers.specs.Documents.{Contents, document_rows}
-use Rattle.runs.specs.Rows.{Rows}
+use Rattle.runs.specs.Rows.{NeverFree, Rows}
 use Rattle.runs.specs.declared.status.Status.TheVariants.{Done}
 pub use Rattle.timex_dates.specs.Printed.{IsCivilText}
 use Rattle.tml_refs.specs.Documents.{PlainInterval, instance, time}
+use Rattle.answers.specs.Commands.{Command, command, of_document}
 
 -- two numbers, each followed by a space
 abbrev pub numbers : ℤ → ℤ → List ℕ
@@ -49,3 +50,7 @@ OfDates contents other text = ⊥
 -- the rows of `dates NAME`
 abbrev pub dates_rows : List ℕ → Rows
 dates_rows name = document_rows OfDates name
+
+-- the command
+abbrev pub dates : Command
+dates = command (codes "dates") (codes "DOC" ∷ []) (of_document (λ more. OfDates) (λ more. NeverFree))

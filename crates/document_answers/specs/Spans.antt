@@ -1,14 +1,16 @@
 -- The command `spans`: the units of a document.
-use Rattle.std.specs.Prelude.{◌≡◌, ℕ, List, ◌++◌, codes, decimal}
+use Rattle.std.specs.Prelude.{◌≡◌, ℕ, List, ◌++◌, codes, decimal, [], ◌∷◌}
 use Rattle.std.specs.List.{flat_map}
 use Rattle.answers.specs.Documents.{doc_file}
 use Rattle.answers.specs.Lines.{HasFaultLine}
 use Rattle.runs.specs.OneFile.{Answers, of_one_file}
-use Rattle.runs.specs.Rows.{Rows}
+use Rattle.runs.specs.Rows.{NeverFree, Rows}
 use Rattle.runs.specs.declared.status.Status.TheVariants.{Done, DocFault}
 use Rattle.tml_span.specs.Faults.{CutFault}
 use Rattle.tml_span.specs.Units.{Attribute, Kind, PlainUnit, bom, comment, declaration, doctype, empty_tag, end_tag, start_tag, text}
 use Rattle.tml_span.specs.Whole.{IsWhole}
+use Rattle.answers.specs.Commands.{Command, argument, command, of_files}
+use Rattle.net_core.specs.Limits.{max_document}
 
 -- the start and the end of a span, each followed by a space
 abbrev pub span_prefix : ℕ → ℕ → List ℕ
@@ -52,3 +54,7 @@ OfSpans doc other out = ⊥
 -- the rows of `spans NAME`
 abbrev pub spans_rows : List ℕ → Rows
 spans_rows name = of_one_file (doc_file name) OfSpans
+
+-- the command
+abbrev pub spans : Command
+spans = command (codes "spans") (codes "DOC" ∷ []) (of_files (max_document ∷ []) (λ given. spans_rows (argument given 0)) NeverFree)

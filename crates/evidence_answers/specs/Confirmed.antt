@@ -1,8 +1,8 @@
 -- The command `confirm`: whether a placing or a cycle of a document is one.
-use Rattle.std.specs.Prelude.{◌≡◌, ◌⊎◌, ℕ, List, codes}
+use Rattle.std.specs.Prelude.{◌≡◌, ◌⊎◌, ℕ, List, codes, [], ◌∷◌}
 use Rattle.answers.specs.Judged.{Judgements, judged_rows}
 use Rattle.answers.specs.Lines.{numbered}
-use Rattle.net_core.specs.Limits.{max_evidence}
+use Rattle.net_core.specs.Limits.{max_document, max_evidence}
 use Rattle.seconds_build.specs.Built.{IsTimedOf}
 use Rattle.seconds_check.specs.Confirmed.{IsConfirmed}
 use Rattle.seconds_check.specs.Refusals.{AreSecondsRefused}
@@ -11,10 +11,11 @@ use Rattle.seconds_core.specs.Evidence.{PlainSeconds}
 use Rattle.seconds_core.specs.Timed.{PlainTimed}
 use Rattle.seconds_format.specs.Begun.{IsBadSecondsLine}
 use Rattle.seconds_format.specs.Texts.{IsSecondsText}
-use Rattle.runs.specs.Rows.{File, Rows}
+use Rattle.runs.specs.Rows.{File, NeverFree, Rows}
 use Rattle.runs.specs.declared.status.Status.{Status}
 use Rattle.runs.specs.declared.status.Status.TheVariants.{Done, EvidenceFault}
 use Rattle.evidence_answers.specs.ConfirmTexts.{seconds_claim_line, seconds_refusal_line}
+use Rattle.answers.specs.Commands.{Command, argument, command, of_files}
 
 -- the file of a name that is read as a placing or a cycle
 abbrev pub seconds_file : List ℕ → File
@@ -44,3 +45,7 @@ OfConfirm contents bytes status text = (timed : PlainTimed) × IsTimedOf content
 -- the rows of `confirm NAME SECONDS`
 abbrev pub confirm_rows : List ℕ → List ℕ → Rows
 confirm_rows name seconds = judged_rows name (seconds_file seconds) OfConfirm
+
+-- the command
+abbrev pub confirm : Command
+confirm = command (codes "confirm") (codes "DOC" ∷ codes "SECONDS" ∷ []) (of_files (max_document ∷ max_evidence ∷ []) (λ given. confirm_rows (argument given 0) (argument given 1)) NeverFree)

@@ -1,5 +1,5 @@
 -- The command `ask`: whether a relation holds between two intervals of a document, by the words for it and for them.
-use Rattle.std.specs.Prelude.{◌≡◌, ◌⊎◌, ℕ, ◌*◌, ◌≤◌, List, codes, length, None, Some}
+use Rattle.std.specs.Prelude.{◌≡◌, ◌⊎◌, ℕ, ◌*◌, ◌≤◌, List, codes, length, None, Some, [], ◌∷◌}
 use Rattle.std.specs.List.{All}
 use Rattle.std.specs.declared.option.Option.{Option}
 use Rattle.answers.specs.Documents.{Contents, document_rows, of_its_contents}
@@ -29,6 +29,7 @@ use Rattle.runs.specs.OneFile.{of_its_bytes}
 use Rattle.runs.specs.Rows.{Freedom, Rows}
 use Rattle.runs.specs.declared.status.Status.{Status}
 use Rattle.runs.specs.declared.status.Status.TheVariants.{Clash, Done, UnknownName}
+use Rattle.answers.specs.Commands.{Command, argument, command, of_document}
 
 -- ---- the words
 
@@ -120,3 +121,8 @@ pub record AreWalks (net : PlainNet) (atoms : List Atom) (walks : List (List Ste
   pub one_each : length walks ≡ length atoms
   pub proofs : IsFirst (length atoms) (Proves net atoms walks) None
   pub short : All (λ steps. length steps ≤ 2 * points net) walks
+
+-- the command
+abbrev pub ask : Command
+ask = command (codes "ask") (codes "DOC" ∷ codes "X" ∷ codes "REL" ∷ codes "Y" ∷ [])
+    (of_document (λ more. OfAsk (argument more 0) (argument more 1) (argument more 2)) (λ more. AskIsFree (argument more 0) (argument more 1) (argument more 2)))

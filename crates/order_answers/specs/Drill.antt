@@ -1,5 +1,5 @@
 -- The command `drill`: the summary of a drill.
-use Rattle.std.specs.Prelude.{◌≡◌, ℕ, ◌≤◌, List, [], ◌++◌, codes, decimal, length, Some}
+use Rattle.std.specs.Prelude.{◌≡◌, ℕ, ◌≤◌, List, [], ◌++◌, codes, decimal, length, Some, ◌∷◌, is_some}
 use Rattle.std.specs.List.{All, Contains}
 use Rattle.std.specs.declared.option.Option.{Option}
 use Rattle.answers.specs.Lines.{numbered}
@@ -9,12 +9,13 @@ use Rattle.drill.specs.Texts.{drill_document}
 use Rattle.named.specs.Texts.{named_of}
 use Rattle.net_answers.specs.Nets.{HasNet}
 use Rattle.net_core.specs.Nets.{PlainNet}
-use Rattle.runs.specs.Rows.{Rows, answers}
+use Rattle.runs.specs.Rows.{NeverFree, Rows, answers}
 use Rattle.runs.specs.declared.status.Status.{Status}
 use Rattle.runs.specs.declared.status.Status.TheVariants.{Done}
 use Rattle.order_answers.specs.Relations.{AreRelations}
 use Rattle.net_core.specs.Least.{AreLeastRanks}
 use Rattle.order_answers.specs.declared.drill_command.Figures.{Figures}
+use Rattle.answers.specs.Commands.{Command, argument, command, of_files}
 
 -- the number of a drill by its word, in decimal
 unfoldable pub drill_number : List ℕ → Option ℕ
@@ -57,3 +58,7 @@ OfDrill n other text = ⊥
 abbrev pub drill_rows : List ℕ → Rows
 drill_rows word [] (answers status text) = (n : ℕ) × (drill_number word ≡ Some n) × OfDrill n status text
 drill_rows word contents next = ⊥
+
+-- the command, which takes the number of a drill
+abbrev pub drill : Command
+drill = record (command (codes "drill") (codes "N" ∷ []) (of_files [] (λ given. drill_rows (argument given 0)) NeverFree)) { takes = λ given. is_some (drill_number (argument given 0)) }

@@ -1,12 +1,12 @@
 -- The command `relations`: the relations that follow from a document.
-use Rattle.std.specs.Prelude.{◌≡◌, ◌↔◌, ℕ, ◌<◌, List, ◌++◌, codes}
+use Rattle.std.specs.Prelude.{◌≡◌, ◌↔◌, ℕ, ◌<◌, List, ◌++◌, codes, [], ◌∷◌}
 use Rattle.std.specs.List.{flat_map}
 use Rattle.answers.specs.Documents.{document_rows}
 use Rattle.answers.specs.Lines.{name_at, related}
 use Rattle.clash.specs.Closures.{IsClosureOf}
 use Rattle.derive_rel.specs.Entailed.{AreAllRows, AreRows, TableEntails}
 use Rattle.derive_rel.specs.declared.all_rows.Row.{Row}
-use Rattle.net_answers.specs.Nets.{NetAnswers, of_net}
+use Rattle.net_answers.specs.Nets.{ClashIsFree, NetAnswers, of_net}
 use Rattle.net_core.specs.Entailment.{Follows}
 use Rattle.net_core.specs.Nets.{PlainNet, intervals}
 use Rattle.net_core.specs.declared.rels.Rel.{Rel}
@@ -14,6 +14,7 @@ use Rattle.order_closure.specs.Tables.{Table}
 use Rattle.tml_refs.specs.Documents.{PlainDocument}
 use Rattle.runs.specs.Rows.{Rows}
 use Rattle.runs.specs.declared.status.Status.TheVariants.{Done}
+use Rattle.answers.specs.Commands.{Command, command, of_document}
 
 -- a relation holds between an interval and one after it in every timeline that fits
 abbrev pub FollowsBetween : PlainNet → Row → Type 0
@@ -44,3 +45,7 @@ pub record EntailsWhatFollows (net : PlainNet) (table : Table) : Type 0 where
 -- the law: so does the closure of a net
 abbrev pub ClosuresEntailWhatFollows : Type 0
 ClosuresEntailWhatFollows = (net : PlainNet) (table : Table) → IsClosureOf net table → EntailsWhatFollows net table
+
+-- the command
+abbrev pub relations : Command
+relations = command (codes "relations") (codes "DOC" ∷ []) (of_document (λ more. of_net OfRelations) (λ more. ClashIsFree))

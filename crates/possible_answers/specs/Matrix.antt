@@ -1,9 +1,9 @@
 -- The command `matrix`: which base relations each two intervals of a document can have.
-use Rattle.std.specs.Prelude.{◌≡◌, ℕ, ◌+◌, ◌-◌, ◌*◌, ◌<◌, Bool, List, ◌++◌, codes}
+use Rattle.std.specs.Prelude.{◌≡◌, ℕ, ◌+◌, ◌-◌, ◌*◌, ◌<◌, Bool, List, ◌++◌, codes, [], ◌∷◌}
 use Rattle.std.specs.List.{filter, flat_map, range_with_len}
 use Rattle.answers.specs.Documents.{document_rows}
 use Rattle.answers.specs.Lines.{name_at}
-use Rattle.net_answers.specs.Nets.{NetAnswers, of_net}
+use Rattle.net_answers.specs.Nets.{ClashIsFree, NetAnswers, of_net}
 use Rattle.net_core.specs.BaseRelations.{base_rels}
 use Rattle.net_core.specs.Entailment.{AreIntervals}
 use Rattle.net_core.specs.Nets.{PlainNet, intervals}
@@ -14,6 +14,7 @@ use Rattle.tml_possible.specs.Possible.{CanBe, CanHold, Tells}
 use Rattle.tml_refs.specs.Documents.{PlainInterval}
 use Rattle.runs.specs.Rows.{Rows}
 use Rattle.runs.specs.declared.status.Status.TheVariants.{Done}
+use Rattle.answers.specs.Commands.{Command, command, of_document}
 
 -- a test of a relation between two intervals, by their numbers
 abbrev pub RelTest : Type 0
@@ -55,3 +56,7 @@ matrix_rows name = document_rows (of_net OfMatrix) name
 -- a test tells which base relations can hold between intervals by a table
 abbrev pub TellsTable : Table → RelTest → Type 0
 TellsTable table can = (a b : ℕ) → 2 * a + 1 < table.points → 2 * b + 1 < table.points → Tells (λ r. can a r b) (λ r. CanHold table a r b)
+
+-- the command
+abbrev pub matrix : Command
+matrix = command (codes "matrix") (codes "DOC" ∷ []) (of_document (λ more. of_net OfMatrix) (λ more. ClashIsFree))

@@ -1,11 +1,11 @@
 -- The command `possible`: which base relations two intervals of a document can have, each with the least timeline that shows it.
-use Rattle.std.specs.Prelude.{◌≡◌, ◌⊎◌, ℕ, List, ◌++◌, codes, length}
+use Rattle.std.specs.Prelude.{◌≡◌, ◌⊎◌, ℕ, List, ◌++◌, codes, length, [], ◌∷◌}
 use Rattle.std.specs.List.{flat_map}
 use Rattle.answers.specs.Documents.{Contents, document_rows}
 use Rattle.answers.specs.Lines.{numbered}
 use Rattle.answers.specs.Names.{NamesNone, NamesOne}
 use Rattle.evidence_format.specs.Written.{timeline_bytes}
-use Rattle.net_answers.specs.Nets.{NetAnswers, of_net}
+use Rattle.net_answers.specs.Nets.{ClashIsFree, NetAnswers, of_net}
 use Rattle.net_core.specs.Fits.{Fits}
 use Rattle.net_core.specs.Nets.{points}
 use Rattle.net_core.specs.Ranks.{pairs_of}
@@ -16,6 +16,7 @@ use Rattle.tml_possible.specs.declared.timelines.PossibleItem.{PossibleItem}
 use Rattle.tml_refs.specs.Documents.{IsNamed, PlainDocument}
 use Rattle.runs.specs.Rows.{Rows}
 use Rattle.runs.specs.declared.status.Status.TheVariants.{Done, UnknownName}
+use Rattle.answers.specs.Commands.{Command, argument, command, of_document}
 
 -- the lines of an item: its relation, and its timeline as evidence has it
 abbrev pub item_lines : PossibleItem → List ℕ
@@ -48,3 +49,7 @@ possible_rows name x y = document_rows (OfPossible x y) name
 -- the text is that of the items of a table
 abbrev pub IsItemsText : Table → ℕ → ℕ → List ℕ → Type 0
 IsItemsText table a b text = (items : List PossibleItem) × AreShown table.points (Keeps table) a b items × (text ≡ items_text items)
+
+-- the command
+abbrev pub possible : Command
+possible = command (codes "possible") (codes "DOC" ∷ codes "X" ∷ codes "Y" ∷ []) (of_document (λ more. OfPossible (argument more 0) (argument more 1)) (λ more. ClashIsFree))

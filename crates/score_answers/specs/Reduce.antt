@@ -1,14 +1,15 @@
 -- The command `reduce`: the links of a document without those that follow from others.
-use Rattle.std.specs.Prelude.{◌≡◌, ℕ, List, [], ◌++◌, codes, length, None, Some}
+use Rattle.std.specs.Prelude.{◌≡◌, ℕ, List, [], ◌++◌, codes, length, None, Some, ◌∷◌}
 use Rattle.std.specs.List.{flat_map, slice_get}
 use Rattle.answers.specs.Documents.{document_rows}
 use Rattle.answers.specs.Lines.{link_line}
-use Rattle.net_answers.specs.Nets.{NetAnswers, of_net}
+use Rattle.net_answers.specs.Nets.{ClashIsFree, NetAnswers, of_net}
 use Rattle.tml_refs.specs.Documents.{PlainDocument}
 use Rattle.runs.specs.Rows.{Rows}
 use Rattle.runs.specs.declared.status.Status.TheVariants.{Done}
 use Rattle.tml_score.specs.Reduced.{IsReduced}
 use Rattle.score_answers.specs.Counts.{of_line}
+use Rattle.answers.specs.Commands.{Command, command, of_document}
 
 -- the line of the link of this number
 abbrev pub reduced_line : PlainDocument → ℕ → List ℕ
@@ -26,3 +27,7 @@ OfReduce contents net other text = ⊥
 -- the rows of `reduce NAME`
 abbrev pub reduce_rows : List ℕ → Rows
 reduce_rows name = document_rows (of_net OfReduce) name
+
+-- the command
+abbrev pub reduce : Command
+reduce = command (codes "reduce") (codes "DOC" ∷ []) (of_document (λ more. of_net OfReduce) (λ more. ClashIsFree))

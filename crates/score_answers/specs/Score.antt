@@ -1,5 +1,5 @@
 -- The command `score`: how much of a document follows from a key, and how much of the key from the document.
-use Rattle.std.specs.Prelude.{◌≡◌, ◌⊎◌, ℕ, List, ◌++◌, codes}
+use Rattle.std.specs.Prelude.{◌≡◌, ◌⊎◌, ℕ, List, ◌++◌, codes, [], ◌∷◌}
 use Rattle.answers.specs.Judged.{Judgements, JudgesFirst, judged_rows, of_judged}
 use Rattle.answers.specs.Lines.{HasFaultLine}
 use Rattle.faults.specs.declared.kind.FaultKind.{FaultKind}
@@ -16,6 +16,7 @@ use Rattle.runs.specs.declared.status.Status.TheVariants.{Clash, DocFault, Done}
 use Rattle.tml_score.specs.Scores.{Annotation, AreScores}
 use Rattle.tml_score.specs.declared.scoring.Scores.{Scores}
 use Rattle.score_answers.specs.Counts.{of_line}
+use Rattle.answers.specs.Commands.{Command, argument, command, of_files}
 
 -- the file of a name that is read as a key
 abbrev pub key_file : List ℕ → File
@@ -62,3 +63,7 @@ ScoreIsFree = of_judged IsFreeScore
 -- the law: `score BAD MISSING` is answered by the fault of the document, and the key is not reached
 abbrev pub ScoreReadsFirst : Type 0
 ScoreReadsFirst = (name key : List ℕ) → JudgesFirst name (score_rows name key)
+
+-- the command
+abbrev pub score : Command
+score = command (codes "score") (codes "DOC" ∷ codes "KEY" ∷ []) (of_files (max_document ∷ max_document ∷ []) (λ given. score_rows (argument given 0) (argument given 1)) ScoreIsFree)

@@ -1,5 +1,5 @@
 -- The command `seconds`: a placing of a document in whole seconds, or a cycle that shows that there is none.
-use Rattle.std.specs.Prelude.{◌≡◌, ◌⊎◌, ℕ, ℤ, List}
+use Rattle.std.specs.Prelude.{◌≡◌, ◌⊎◌, ℕ, ℤ, List, [], ◌∷◌, codes}
 use Rattle.answers.specs.Documents.{Contents, document_rows}
 use Rattle.seconds_build.specs.Built.{IsTimedOf}
 use Rattle.seconds_core.specs.Evidence.{Placed, Cycle}
@@ -11,6 +11,7 @@ use Rattle.runs.specs.Rows.{Freedom, Rows}
 use Rattle.runs.specs.declared.status.Status.{Status}
 use Rattle.runs.specs.declared.status.Status.TheVariants.{Clash, Done}
 use Rattle.seconds_search.specs.Decided.{IsShortCycle}
+use Rattle.answers.specs.Commands.{Command, command, of_document}
 
 -- the text is that of a placing
 abbrev pub ShowsPlacing : PlainTimed → List ℕ → Type 0
@@ -37,3 +38,7 @@ seconds_rows name = document_rows OfSeconds name
 -- which placing is printed, or which cycle, is free
 abbrev pub SecondsAreFree : Freedom
 SecondsAreFree contents status = (status ≡ Done) ⊎ (status ≡ Clash)
+
+-- the command
+abbrev pub seconds : Command
+seconds = command (codes "seconds") (codes "DOC" ∷ []) (of_document (λ more. OfSeconds) (λ more. SecondsAreFree))

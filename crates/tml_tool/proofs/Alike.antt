@@ -1,16 +1,7 @@
 -- A document and its canonical text have one answer to what is asked of what they say.
 use Rattle.std.proofs.Common.{◌≡◌, true, false, ℕ, ◌+◌, List, [], ◌∷◌, sym, subst, ◌∙◌, inl, inr, Some}
+use Rattle.answers.specs.Commands.{Question, of_document, of_files, rows_of}
 use Rattle.answers.specs.Documents.{Contents, doc_file, document_rows, of_contents}
-use Rattle.document_answers.specs.Check.{OfCheck}
-use Rattle.document_answers.specs.Dates.{OfDates}
-use Rattle.net_answers.specs.Nets.{of_net}
-use Rattle.order_answers.specs.Ask.{OfAsk}
-use Rattle.order_answers.specs.Relations.{OfRelations}
-use Rattle.order_answers.specs.Solve.{OfSolve}
-use Rattle.possible_answers.specs.Matrix.{OfMatrix}
-use Rattle.possible_answers.specs.Possible.{OfPossible}
-use Rattle.score_answers.specs.Reduce.{OfReduce}
-use Rattle.seconds_answers.specs.Seconds.{OfSeconds}
 use Rattle.tml_accept.specs.Acceptance.{IsAccepted, Says}
 use Rattle.tml_accept.proofs.Phases.{accepted_or_fault, one_document}
 use Rattle.tml_canon.specs.Canonical.{canonical_text}
@@ -26,9 +17,8 @@ use Rattle.runs.specs.Replies.{Replies}
 use Rattle.runs.specs.declared.status.Status.{Status}
 use Rattle.runs.proofs.OneFile.{replied, replies}
 use Rattle.tml_tree.specs.Plain.{PlainNode}
-use Rattle.tml_tool.specs.Alike.{CanonicalIsAlike, HasReply, HoldsDocument, is_of_contents}
-use Rattle.tml_tool.specs.declared.commands.Form.{Form}
-use Rattle.tml_tool.specs.declared.commands.Form.TheVariants.{Spans, Check, Dates, Solve, Ask, Relations, Canon, Verify, Drill, Renew, Join, Possible, Matrix, Reduce, Score, Seconds, Confirm}
+use Rattle.tml_tool.specs.Alike.{CanonicalIsAlike, HoldsDocument, is_of_contents}
+use Rattle.tml_tool.specs.Commands.{command_of}
 
 -- the canonical text of an accepted document is accepted, and says the same
 canonical_accepted : (doc : List ℕ) (root : PlainNode) (contents : PlainDocument) → IsAccepted doc root contents → IsAccepted (canonical_text root) (canonical_tree root) contents
@@ -48,26 +38,10 @@ module _ (doc other : List ℕ) (contents : PlainDocument) (says : Says doc cont
         let answer = replied files (doc_file name) (of_contents Of) doc holds.0 holds.1 status line taken whole h in
         (total_length (other ∷ []) + 0, replies files (doc_file another) (of_contents Of) other too.0 too.1 status line (answered_alike Of status line answer))
 
-    reply_alike : (form : Form) (given : List (List ℕ)) (status : Status) (line : List ℕ) → is_of_contents form ≡ true → is_aborted status ≡ false → HasReply files form name given status line → HasReply files form another given status line
-    reply_alike Check [] status line e whole (taken, h) = rows_alike OfCheck status line taken whole h
-    reply_alike Dates [] status line e whole (taken, h) = rows_alike OfDates status line taken whole h
-    reply_alike Solve [] status line e whole (taken, h) = rows_alike (of_net OfSolve) status line taken whole h
-    reply_alike Ask (x ∷ rel ∷ y ∷ []) status line e whole (taken, h) = rows_alike (OfAsk x rel y) status line taken whole h
-    reply_alike Relations [] status line e whole (taken, h) = rows_alike (of_net OfRelations) status line taken whole h
-    reply_alike Possible (x ∷ y ∷ []) status line e whole (taken, h) = rows_alike (OfPossible x y) status line taken whole h
-    reply_alike Matrix [] status line e whole (taken, h) = rows_alike (of_net OfMatrix) status line taken whole h
-    reply_alike Reduce [] status line e whole (taken, h) = rows_alike (of_net OfReduce) status line taken whole h
-    reply_alike Seconds [] status line e whole (taken, h) = rows_alike OfSeconds status line taken whole h
-    reply_alike Spans given status line e whole h = absurd cc
-    reply_alike Canon given status line e whole h = absurd cc
-    reply_alike Verify given status line e whole h = absurd cc
-    reply_alike Drill given status line e whole h = absurd cc
-    reply_alike Renew given status line e whole h = absurd cc
-    reply_alike Join given status line e whole h = absurd cc
-    reply_alike Score given status line e whole h = absurd cc
-    reply_alike Confirm given status line e whole h = absurd cc
-    -- this number of arguments has no form over either
-    reply_alike form given status line e whole h = h
+    reply_alike : (asks : Question) (given : List (List ℕ)) (status : Status) (line : List ℕ) → is_of_contents asks ≡ true → is_aborted status ≡ false
+        → (taken : ℕ) × Replies (Some files) (rows_of asks (name ∷ given)) status line taken → (count : ℕ) × Replies (Some files) (rows_of asks (another ∷ given)) status line count
+    reply_alike (of_document Of IsFree) given status line e whole (taken, h) = rows_alike (Of given) status line taken whole h
+    reply_alike (of_files limits rows IsFree) given status line e whole h = absurd cc
 
 -- a canonical text is its own, and is answered as the document is
 pub canonical_is_alike : CanonicalIsAlike
@@ -76,7 +50,7 @@ canonical_is_alike = λ doc text (root, contents, is, written).
     record {
       itself = (canonical_tree root, contents, accepted, written ∙ sym (canonical_is_itself root));
       alike = λ files form name other arguments status line e holds too whole. (
-        reply_alike doc text contents (root, is) (canonical_tree root, accepted) files name other holds too form arguments status line e whole,
-        reply_alike text doc contents (canonical_tree root, accepted) (root, is) files other name too holds form arguments status line e whole,
+        reply_alike doc text contents (root, is) (canonical_tree root, accepted) files name other holds too (command_of form).asks arguments status line e whole,
+        reply_alike text doc contents (canonical_tree root, accepted) (root, is) files other name too holds (command_of form).asks arguments status line e whole,
       );
     }

@@ -1,10 +1,11 @@
 -- The form that some words have, by its word and by how many arguments there are.
-use Rattle.std.proofs.Common.{◌≡◌, ◌≢◌, inl, inr, ℕ, ◌==◌, List, [], ◌∷◌, length, true, false, refl, sym, ap, subst, ◌∙◌, Option, Some, None, Bool, String, Global, string_bytes, arith}
+use Rattle.std.proofs.Common.{◌≡◌, ◌≢◌, inl, inr, ℕ, ◌+◌, ◌==◌, List, [], ◌∷◌, length, true, false, refl, sym, ap, subst, ◌∙◌, Option, Some, None, Bool, String, Global, string_bytes, arith}
 use Rattle.std.specs.Prelude.{codes, if◌then◌else◌}
 use Rattle.std.proofs.lemmas.Bool.{eq-eqb}
 use Rattle.std.proofs.lemmas.Bool.Decides.{eqb_tells}
 use Rattle.std.proofs.lemmas.List.{length-map}
 use Rattle.named.specs.Texts.{named_of}
+use Rattle.answers.specs.Commands.{after_first, argument}
 use Rattle.tml_io.specs.Known.{KnownInputs}
 use Rattle.runs.specs.declared.status.Status.{Status}
 use Rattle.runs.specs.declared.status.Status.TheVariants.{Usage}
@@ -13,8 +14,13 @@ use Rattle.runs.specs.Words.{texts_of}
 use Rattle.runs.proofs.Usage.{usage_replied as replied_usage}
 use Rattle.tml_tool.specs.declared.commands.Form.{Form}
 use Rattle.tml_tool.specs.declared.commands.Form.TheVariants.{Spans}
-use Rattle.tml_tool.specs.Commands.{all_forms, arguments_of, form_of, limits_of, rows_of, taken_form, takes, usage, word_of}
+use Rattle.tml_tool.specs.Commands.{all_forms, arguments_of, command_of, form_of, limits_of, rows_of, taken_form, usage, word_of}
 use Rattle.tml_tool.specs.Forms.{with_arguments}
+
+-- the arguments after the first are the next ones of all
+pub next_argument : (given : List (List ℕ)) (k : ℕ) → argument (after_first given) k ≡ argument given (k + 1)
+next_argument [] k = refl
+next_argument (first ∷ more) k = refl
 
 pub by_test : (b : Bool) (asked : Option (Form × List (List ℕ))) → b ≡ true → (if b then asked else None) ≡ asked
 by_test b asked e = ap (λ (t : Bool). if t then asked else None) e
@@ -31,8 +37,8 @@ no_words [] e = refl
 no_words (w ∷ ws) e = absurd (omega (arith, e))
 
 module _ (words arguments : List (String Global)) (word : String Global) (bytes : List ℕ) (are : words ≡ word ∷ arguments) (is : bytes ≡ string_bytes word) where
-  is_form : (found : Option Form) → found ≡ named_of word_of all_forms bytes → form_of (texts_of words) ≡ with_arguments arguments_of takes (texts_of arguments) found
-  is_form found e = ap (λ (w : List (String Global)). form_of (texts_of w)) are ∙ ap (λ (b : List ℕ). form_of (b ∷ texts_of arguments)) (sym is) ∙ ap (with_arguments arguments_of takes (texts_of arguments)) (sym e)
+  is_form : (found : Option Form) → found ≡ named_of word_of all_forms bytes → form_of (texts_of words) ≡ with_arguments arguments_of (λ f. (command_of f).takes) (texts_of arguments) found
+  is_form found e = ap (λ (w : List (String Global)). form_of (texts_of w)) are ∙ ap (λ (b : List ℕ). form_of (b ∷ texts_of arguments)) (sym is) ∙ ap (with_arguments arguments_of (λ f. (command_of f).takes) (texts_of arguments)) (sym e)
 
   pub no_word : None ≡ named_of word_of all_forms bytes → form_of (texts_of words) ≡ None
   no_word e = is_form None e

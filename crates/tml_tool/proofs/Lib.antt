@@ -1,4 +1,3 @@
-pub mod Arguments
 pub mod Alike
 pub mod Asked
 pub mod Drilled

@@ -1,5 +1,6 @@
 -- What is printed as evidence, `verify` accepts.
 use Rattle.std.proofs.Common.{◌≡◌, ◌≢◌, ◌≤◌, false, ℕ, List, map, [], ◌∷◌, length, refl, Some, inl, inr, arith}
+use Rattle.answers.specs.Commands.{argument}
 use Rattle.answers.specs.Documents.{Contents, doc_file, document_rows, of_contents}
 use Rattle.answers.specs.Judged.{documents}
 use Rattle.evidence_answers.specs.Texts.{claim_lines}
@@ -31,14 +32,10 @@ use Rattle.tml_refs.specs.Documents.{PlainDocument}
 use Rattle.runs.specs.OneReply.{is_aborted}
 use Rattle.runs.specs.Replies.{Replies}
 use Rattle.runs.specs.declared.status.Status.{Status}
-use Rattle.runs.specs.declared.status.Status.TheVariants.{Done, Clash, DocFault, TooLong, Usage}
-use Rattle.runs.specs.Words.{usage_rows}
-use Rattle.runs.proofs.HowItEnds.{answered}
+use Rattle.runs.specs.declared.status.Status.TheVariants.{Done, Clash, DocFault, TooLong}
 use Rattle.runs.proofs.OneFile.{answered_or_long}
-use Rattle.runs.proofs.OneReply.{one_reply}
 use Rattle.runs.proofs.TwoFiles.{judged_or_long}
-use Rattle.runs.proofs.Usage.{usage_answered}
-use Rattle.tml_tool.specs.Commands.{rows_with, usage}
+use Rattle.tml_tool.specs.Commands.{rows_with}
 use Rattle.tml_tool.specs.TwoRuns.{EvidenceIsVerified, PrintsEvidence}
 use Rattle.tml_tool.specs.declared.commands.Form.{Form}
 use Rattle.tml_tool.specs.declared.commands.Form.TheVariants.{Solve, Ask, Relations, Possible, Matrix, Reduce, Score}
@@ -112,33 +109,19 @@ scored files name key text taken other h = elim (judged_or_long documents files 
   | inl (doc, holds, short, inr (bytes, (contents, says, inr (said, is, asked)))) ↦ (doc, holds, short, a_clash (OfKey said) doc contents says text (λ net answer. other answer.2.1) asked)
 ]
 
--- words that have no form have no other reply than the usage text
-no_form : (files : Files) (status : Status) (text : List ℕ) (taken : ℕ) → is_aborted status ≡ false → (status ≡ Usage → ⊥) → Replies (Some files) (usage_rows usage) status text taken → ⊥
-no_form files status text taken whole other h =
-    let reply : Replies (Some files) (usage_rows usage) Usage usage 0 = answered (Some files) (usage_rows usage) [] Usage usage 0 tt refl refl in
-    other (one_reply (usage_rows usage) (usage_answered usage).one_next files status Usage text usage taken 0 whole refl h reply).one_status
-
 printed : (files : Files) (form : Form) (name : List ℕ) (given : List (List ℕ)) (status : Status) (text : List ℕ) (taken : ℕ) → PrintsEvidence form status text
     → Replies (Some files) (rows_with form (name ∷ given)) status text taken → HasShown files name text
-printed files Solve name [] Done text taken e h = shown files (of_net OfSolve) name Done text taken (refl, λ is. cc, λ is. cc) of_timeline h
-printed files Solve name [] Clash text taken e h = shown files (of_net OfSolve) name Clash text taken (refl, λ is. cc, λ is. cc) (of_clash OfSolve (λ contents net text none. none)) h
-printed files Relations name [] Clash text taken e h = shown files (of_net OfRelations) name Clash text taken (refl, λ is. cc, λ is. cc) (of_clash OfRelations (λ contents net text none. none)) h
-printed files Ask name (x ∷ rel ∷ y ∷ []) Done text taken e h = shown files (OfAsk x rel y) name Done text taken (refl, λ is. cc, λ is. cc) (of_relation x rel y) h
-printed files Ask name (x ∷ rel ∷ y ∷ []) Clash text taken e h = shown files (OfAsk x rel y) name Clash text taken (refl, λ is. cc, λ is. cc) (of_asked_clash x rel y) h
-printed files Possible name (x ∷ y ∷ []) Clash text taken e h = shown files (OfPossible x y) name Clash text taken (refl, λ is. cc, λ is. cc) (of_possible_clash x y) h
-printed files Matrix name [] Clash text taken e h = shown files (of_net OfMatrix) name Clash text taken (refl, λ is. cc, λ is. cc) (of_clash OfMatrix (λ contents net text none. none)) h
-printed files Reduce name [] Clash text taken e h = shown files (of_net OfReduce) name Clash text taken (refl, λ is. cc, λ is. cc) (of_clash OfReduce (λ contents net text none. none)) h
-printed files Score name (key ∷ []) Clash text taken e h = scored files name key text taken e h
--- this number of arguments has no form, and a reply to words that have none is no evidence
-printed files Solve name given Done text taken e h = absurd (no_form files Done text taken refl (λ is. cc) h)
-printed files Ask name given Done text taken e h = absurd (no_form files Done text taken refl (λ is. cc) h)
-printed files Solve name given Clash text taken e h = absurd (no_form files Clash text taken refl (λ is. cc) h)
-printed files Relations name given Clash text taken e h = absurd (no_form files Clash text taken refl (λ is. cc) h)
-printed files Ask name given Clash text taken e h = absurd (no_form files Clash text taken refl (λ is. cc) h)
-printed files Possible name given Clash text taken e h = absurd (no_form files Clash text taken refl (λ is. cc) h)
-printed files Matrix name given Clash text taken e h = absurd (no_form files Clash text taken refl (λ is. cc) h)
-printed files Reduce name given Clash text taken e h = absurd (no_form files Clash text taken refl (λ is. cc) h)
-printed files Score name given Clash text taken e h = absurd (no_form files Clash text taken refl (λ is. cc) h)
+printed files Solve name given Done text taken e h = shown files (of_net OfSolve) name Done text taken (refl, λ is. cc, λ is. cc) of_timeline h
+printed files Solve name given Clash text taken e h = shown files (of_net OfSolve) name Clash text taken (refl, λ is. cc, λ is. cc) (of_clash OfSolve (λ contents net text none. none)) h
+printed files Relations name given Clash text taken e h = shown files (of_net OfRelations) name Clash text taken (refl, λ is. cc, λ is. cc) (of_clash OfRelations (λ contents net text none. none)) h
+printed files Ask name given Done text taken e h =
+    shown files (OfAsk (argument given 0) (argument given 1) (argument given 2)) name Done text taken (refl, λ is. cc, λ is. cc) (of_relation (argument given 0) (argument given 1) (argument given 2)) h
+printed files Ask name given Clash text taken e h =
+    shown files (OfAsk (argument given 0) (argument given 1) (argument given 2)) name Clash text taken (refl, λ is. cc, λ is. cc) (of_asked_clash (argument given 0) (argument given 1) (argument given 2)) h
+printed files Possible name given Clash text taken e h = shown files (OfPossible (argument given 0) (argument given 1)) name Clash text taken (refl, λ is. cc, λ is. cc) (of_possible_clash (argument given 0) (argument given 1)) h
+printed files Matrix name given Clash text taken e h = shown files (of_net OfMatrix) name Clash text taken (refl, λ is. cc, λ is. cc) (of_clash OfMatrix (λ contents net text none. none)) h
+printed files Reduce name given Clash text taken e h = shown files (of_net OfReduce) name Clash text taken (refl, λ is. cc, λ is. cc) (of_clash OfReduce (λ contents net text none. none)) h
+printed files Score name given Clash text taken e h = scored files name (argument given 0) text taken e h
 printed files form name given status text taken e h = absurd e
 
 -- it is read as evidence, and verified

@@ -1,27 +1,19 @@
 -- A document and its canonical text: what is asked of what they say has one answer.
 use Rattle.std.specs.Prelude.{◌≡◌, ◌↔◌, ◌≤◌, Bool, true, false, ℕ, List, ◌∷◌, length, Some}
+use Rattle.answers.specs.Commands.{Question, of_document, of_files}
 use Rattle.document_answers.specs.Canon.{HasCanonicalText}
 use Rattle.net_core.specs.Limits.{max_document}
 use Rattle.tml_io.specs.Files.{Files, held}
 use Rattle.runs.specs.OneReply.{is_aborted}
 use Rattle.runs.specs.Replies.{Replies}
 use Rattle.runs.specs.declared.status.Status.{Status}
-use Rattle.tml_tool.specs.Commands.{rows_with}
+use Rattle.tml_tool.specs.Commands.{command_of, rows_with}
 use Rattle.tml_tool.specs.declared.commands.Form.{Form}
-use Rattle.tml_tool.specs.declared.commands.Form.TheVariants.{Check, Dates, Solve, Ask, Relations, Possible, Matrix, Reduce, Seconds}
 
 -- what is asked is answered by what the document says, and not by how it is written
-abbrev pub is_of_contents : Form → Bool
-is_of_contents Check = true
-is_of_contents Dates = true
-is_of_contents Solve = true
-is_of_contents Ask = true
-is_of_contents Relations = true
-is_of_contents Possible = true
-is_of_contents Matrix = true
-is_of_contents Reduce = true
-is_of_contents Seconds = true
-is_of_contents form = false
+abbrev pub is_of_contents : Question → Bool
+is_of_contents (of_document Of IsFree) = true
+is_of_contents (of_files limits rows IsFree) = false
 
 -- a file holds a document that is short enough to be read
 abbrev pub HoldsDocument : Files → List ℕ → List ℕ → Type 0
@@ -35,7 +27,7 @@ HasReply files form name arguments status line = (taken : ℕ) × Replies (Some 
 pub record IsAlike (doc text : List ℕ) : Type 0 where
   pub itself : HasCanonicalText text text
   pub alike : (files : Files) (form : Form) (name other : List ℕ) (arguments : List (List ℕ)) (status : Status) (line : List ℕ)
-      → is_of_contents form ≡ true → HoldsDocument files name doc → HoldsDocument files other text → is_aborted status ≡ false
+      → is_of_contents (command_of form).asks ≡ true → HoldsDocument files name doc → HoldsDocument files other text → is_aborted status ≡ false
       → HasReply files form name arguments status line ↔ HasReply files form other arguments status line
 
 abbrev pub CanonicalIsAlike : Type 0

@@ -1,11 +1,7 @@
 -- Words, and the form that they have. Nothing here knows what forms there are.
 use Rattle.std.specs.Prelude.{ℕ, Bool, List, [], ◌++◌, codes, length, ◌==◌, None, Some, if◌then◌else◌}
-use Rattle.std.specs.List.{flat_map, slice_index_or}
+use Rattle.std.specs.List.{flat_map}
 use Rattle.std.specs.declared.option.Option.{Option}
-
--- the argument of this number
-abbrev pub argument : List (List ℕ) → ℕ → List ℕ
-argument arguments k = slice_index_or arguments k []
 
 -- a form with these arguments, if it takes them
 abbrev pub taken_by : {F : Type 0} → (F → List (List ℕ) → Bool) → F → List (List ℕ) → Option (F × List (List ℕ))

@@ -6,7 +6,7 @@ ghost use Rattle.runs.specs.Replied.{IsReplyTo};
 ghost use Rattle.runs.specs.View.{status_of, text_of};
 ghost use Rattle.runs.specs.Words.{texts_of};
 ghost use Rattle.tml_tool.specs.Commands.{arguments_of, limits_of, rows_of, taken_form, usage};
-ghost use Rattle.tml_tool.specs.Forms.{argument};
+ghost use Rattle.answers.specs.Commands.{argument};
 
 use answers::{DOC, reply_of_document, reply_of_judged};
 use document_answers::{Canon, Check, Dates, Spans};
