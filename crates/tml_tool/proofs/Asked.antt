@@ -1,6 +1,7 @@
 -- The form that some words have, by its word and by how many arguments there are.
 use Rattle.std.proofs.Common.{◌≡◌, ◌≢◌, inl, inr, ℕ, ◌+◌, ◌==◌, List, [], ◌∷◌, length, true, false, refl, sym, ap, subst, ◌∙◌, Option, Some, None, Bool, String, Global, string_bytes, arith}
 use Rattle.std.specs.Prelude.{codes, if◌then◌else◌}
+use native.Mathlib.Numerals.{unary_clauses}
 use Rattle.std.proofs.lemmas.Bool.{eq-eqb}
 use Rattle.std.proofs.lemmas.Bool.Decides.{eqb_tells}
 use Rattle.std.proofs.lemmas.List.{length-map}
@@ -20,7 +21,7 @@ use Rattle.tml_tool.specs.Forms.{with_arguments}
 -- the arguments after the first are the next ones of all
 pub next_argument : (given : List (List ℕ)) (k : ℕ) → argument (after_first given) k ≡ argument given (k + 1)
 next_argument [] k = refl
-next_argument (first ∷ more) k = refl
+next_argument (first ∷ more) k = simp unary_clauses refl
 
 pub by_test : (b : Bool) (asked : Option (Form × List (List ℕ))) → b ≡ true → (if b then asked else None) ≡ asked
 by_test b asked e = ap (λ (t : Bool). if t then asked else None) e

@@ -1,5 +1,5 @@
 -- The reply to a drill: no file is read for it.
-use Rattle.std.proofs.Common.{◌≡◌, ℕ, List, [], Option, Result, Some, None, Bool, refl, sym, ap, ◌∙◌}
+use Rattle.std.proofs.Common.{◌≡◌, ℕ, List, [], Result, Some, None, sym, ap, ◌∙◌}
 use Rattle.std.specs.Prelude.{IfOk, is_some}
 use Rattle.std.proofs.lemmas.Result.{IfOk-weaker}
 use Rattle.answers.specs.Commands.{argument}

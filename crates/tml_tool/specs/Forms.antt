@@ -1,5 +1,5 @@
 -- Words, and the form that they have. Nothing here knows what forms there are.
-use Rattle.std.specs.Prelude.{ℕ, Bool, List, [], ◌++◌, codes, length, ◌==◌, None, Some, if◌then◌else◌}
+use Rattle.std.specs.Prelude.{ℕ, Bool, List, ◌++◌, codes, length, ◌==◌, None, Some, if◌then◌else◌}
 use Rattle.std.specs.List.{flat_map}
 use Rattle.std.specs.declared.option.Option.{Option}
 

@@ -19,7 +19,8 @@ returns-in-Solve-clause-reply g c = rw (c.in-Solve.is) (rw c.word-first.ensures 
 
 pub returns-in-Ask-clause-reply : goal.returns-in-Ask-clause-reply
 returns-in-Ask-clause-reply g c =
-    rw (c.in-Ask.is, next_argument (texts_of c.args.arguments.now)) (rw (c.word-first.ensures, c.as_bytes.ensures.value, c.as_bytes-in-Ask.ensures.value, c.as_bytes-in-Ask-2.ensures.value, c.word.ensures, c.word-in-Ask.ensures, c.word-in-Ask-2.ensures) at c.reply_of_document-in-Ask.ensures.reply)
+    let given = texts_of c.args.arguments.now in
+    rw (c.in-Ask.is, next_argument given 0, next_argument given 1, next_argument given 2) (rw (c.word-first.ensures, c.as_bytes.ensures.value, c.as_bytes-in-Ask.ensures.value, c.as_bytes-in-Ask-2.ensures.value, c.word.ensures, c.word-in-Ask.ensures, c.word-in-Ask-2.ensures) at c.reply_of_document-in-Ask.ensures.reply)
 
 pub returns-in-Relations-clause-reply : goal.returns-in-Relations-clause-reply
 returns-in-Relations-clause-reply g c = rw (c.in-Relations.is) (rw c.word-first.ensures at c.reply_of_document-in-Relations.ensures.reply)
@@ -48,7 +49,8 @@ returns-in-Join-clause-reply g c = rw (c.in-Join.is) (rw (c.word-first.ensures, 
 
 pub returns-in-Possible-clause-reply : goal.returns-in-Possible-clause-reply
 returns-in-Possible-clause-reply g c =
-    rw (c.in-Possible.is, next_argument (texts_of c.args.arguments.now)) (rw (c.word-first.ensures, c.as_bytes-in-Possible.ensures.value, c.as_bytes-in-Possible-2.ensures.value, c.word-in-Possible.ensures, c.word-in-Possible-2.ensures) at c.reply_of_document-in-Possible.ensures.reply)
+    let given = texts_of c.args.arguments.now in
+    rw (c.in-Possible.is, next_argument given 0, next_argument given 1) (rw (c.word-first.ensures, c.as_bytes-in-Possible.ensures.value, c.as_bytes-in-Possible-2.ensures.value, c.word-in-Possible.ensures, c.word-in-Possible-2.ensures) at c.reply_of_document-in-Possible.ensures.reply)
 
 pub returns-in-Matrix-clause-reply : goal.returns-in-Matrix-clause-reply
 returns-in-Matrix-clause-reply g c = rw (c.in-Matrix.is) (rw c.word-first.ensures at c.reply_of_document-in-Matrix.ensures.reply)

@@ -1,4 +1,4 @@
-use Rattle.std.proofs.Common.{refl, sym, ◌∙◌}
+use Rattle.std.proofs.Common.{sym, ◌∙◌}
 use Rattle.tml_tool.proofs.Asked.{along, is_asked, no_count, no_word, no_words, usage_replied}
 use Rattle.tml_tool.proofs.top.TmlProgram.reply.Goals as goal
 
