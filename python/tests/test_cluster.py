@@ -69,7 +69,8 @@ class OnACluster(ClusterTest):
         return self.bytes_of(*words), self.bytes_of(*words, "--cluster", self.address, tml=tml)
 
     def test_same_bytes(self) -> None:
-        self.files(100)
+        # Four groups, two for each worker, of which the last is not full.
+        self.files(60)
         rows: list[tuple[str, list[str], str]] = [
             ("text", ["--more", "1"], TML),
             ("jsonl", ["--explain"], TML),
@@ -88,7 +89,7 @@ class OnACluster(ClusterTest):
             os.unlink(name)
         self.assertEqual(one, self.bytes_of("clashes", "--evidence", "kept", "d", "--cluster", self.address))
         self.assertEqual(before, {name: text_at(name) for name in glob.glob(self.path("kept/*"))})
-        self.assertEqual(len(before), 10)
+        self.assertEqual(len(before), 6)
 
     @unittest.skipUnless(importlib.util.find_spec("distributed"), "this Python has no module distributed")
     def test_what_the_work_raises_on_a_worker_is_said_of_its_file(self) -> None:

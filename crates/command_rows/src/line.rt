@@ -78,8 +78,7 @@ pub fn line_of(line: &str) -> Option<Line<'_>> {
         return Some(Line::Command(words));
     }
     if let Some(rest) = line.strip_prefix('[') {
-        let status = rest.strip_suffix(']')?.parse().ok()?;
-        return Some(Line::Status(status));
+        return status(rest);
     }
     match line.split_once('|') {
         Some((head, text)) => before_text(head, text),
@@ -95,6 +94,12 @@ fn text_of(rest: &str) -> Option<Line<'_>> {
         _ => Some(number.parse().ok()?),
     };
     Some(Line::TextOf { name, most })
+}
+
+/// What follows the `[` of a status.
+fn status(rest: &str) -> Option<Line<'_>> {
+    let status = rest.strip_suffix(']')?.parse().ok()?;
+    Some(Line::Status(status))
 }
 
 /// The numbers of a row that stands for several, as `0..58`.

@@ -12,13 +12,18 @@ mod table;
 mod text;
 
 use anyhow::Result;
-use std::io::{BufRead, BufReader};
+use std::io;
 use table::Table;
 
 fn main(rt: HostRuntime) -> Result<()> {
+    let text = io::read_to_string(rt.alloc(), rt.reader())?;
+    try_rows(&rt, text.as_str())
+}
+
+fn try_rows(rt: &HostRuntime, text: &str) -> Result<()> {
     let mut table = Table::new(rt.alloc());
-    for line in BufReader::new(rt.alloc(), rt.reader())?.lines(rt.alloc()) {
-        table.take(&rt, line?.as_str())?;
+    for line in text.lines() {
+        table.take(rt, line)?;
     }
-    table.close(&rt)
+    table.close(rt)
 }

@@ -18,6 +18,13 @@ struct File {
     text: Vec<u8>,
 }
 
+impl File {
+    /// Its name and its text once more.
+    fn copy(&self) -> Result<(String, Vec<u8>), AllocError> {
+        Ok((self.name.clone()?, self.text.clone()?))
+    }
+}
+
 /// Commands, and the text that each of them is to write.
 #[derive(Drop)]
 struct Row {
@@ -89,6 +96,11 @@ impl Table {
             self.repeated = Some(repeated);
             return Ok(());
         }
+        self.take_each(rt, &repeated)
+    }
+
+    /// Takes the lines of a row that stands for several, with each of its numbers.
+    fn take_each(&mut self, rt: &impl Print, repeated: &Repeated) -> Result<()> {
         for number in repeated.first..=repeated.last {
             self.take_numbered(rt, repeated.lines.as_slice(), number)?;
         }
@@ -123,13 +135,7 @@ impl Table {
             Line::Each { first, last } => {
                 self.repeated = Some(Repeated::new(self.alloc, first, last));
             }
-            Line::Command(words) => {
-                let row = Row {
-                    commands: Vec::new(self.alloc),
-                    wanted: Vec::new(self.alloc),
-                };
-                self.take_command(row, words)?;
-            }
+            Line::Command(words) => self.begin_row(words)?,
             Line::Text(_) | Line::TextOf { .. } => bail!("a text of no file and no row"),
             Line::Status(_) => bail!("a status of no row"),
         }
@@ -161,6 +167,15 @@ impl Table {
         Ok(())
     }
 
+    /// Begins a row with the command of the line that was read.
+    fn begin_row(&mut self, words: &str) -> Result<()> {
+        let row = Row {
+            commands: Vec::new(self.alloc),
+            wanted: Vec::new(self.alloc),
+        };
+        self.take_command(row, words)
+    }
+
     /// Appends the command of the line that was read into a row.
     fn take_command(&mut self, mut row: Row, words: &str) -> Result<()> {
         row.commands
@@ -171,12 +186,17 @@ impl Table {
 
     /// Appends the text of the last file of that name, or this number of its first bytes.
     fn append_file(&self, bytes: &mut Vec<u8>, name: &str, most: Option<u32>) -> Result<()> {
+        let text = self.text_of(name)?;
+        let len = most.map_or(text.len(), |most| (most as usize).min(text.len()));
+        bytes.extend_from_slice(&text[..len])?;
+        Ok(())
+    }
+
+    /// The text of the last file of that name.
+    fn text_of(&self, name: &str) -> Result<&[u8]> {
         for file in self.files.iter().rev() {
             if file.name.as_str() == name {
-                let text = file.text.as_slice();
-                let len = most.map_or(text.len(), |most| (most as usize).min(text.len()));
-                bytes.extend_from_slice(&text[..len])?;
-                return Ok(());
+                return Ok(file.text.as_slice());
             }
         }
         bail!("no file {name}")
@@ -249,7 +269,7 @@ impl Table {
             files.push((String::from_str(self.alloc, "-")?, input.clone()?))?;
         }
         for file in self.files.iter().rev() {
-            files.push((file.name.clone()?, file.text.clone()?))?;
+            files.push(file.copy()?)?;
         }
         Ok(files)
     }

@@ -51,14 +51,19 @@ fn append_escaped(bytes: &mut Vec<u8>, part: &str, number: u32) -> Result<()> {
         }
         _ => match part.strip_prefix('#') {
             Some(plain) => {
-                let digits = format!(in *bytes.allocator(); "{number}")?;
-                bytes.extend_from_slice(digits.as_bytes())?;
+                append_number(bytes, number)?;
                 plain
             }
             None => bail!("no such escape as \\{part}"),
         },
     };
     bytes.extend_from_slice(plain.as_bytes())?;
+    Ok(())
+}
+
+fn append_number(bytes: &mut Vec<u8>, number: u32) -> Result<()> {
+    let digits = format!(in *bytes.allocator(); "{number}")?;
+    bytes.extend_from_slice(digits.as_bytes())?;
     Ok(())
 }
 

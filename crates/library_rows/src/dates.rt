@@ -1,7 +1,7 @@
 //! Civil texts of seconds, documents of drills, and lists of `tml_io`.
+use crate::page::Page;
 use crate::words::Words;
 use drill::drill_text;
-use rows::Page;
 use std::alloc::Global;
 use timex_dates::civil_text;
 use tml_io::List;
@@ -41,13 +41,18 @@ fn print_drill(page: &mut Page, alloc: Global, instances: u32) -> Option<()> {
 
 /// Prints numbers in the order in which a list of `tml_io` keeps them.
 fn print_list(page: &mut Page, alloc: Global, words: Words<'_>) -> Option<()> {
-    let mut list = List::new(alloc);
-    for word in words.rest.split(' ') {
-        list.push(word.parse().ok()?).ok()?;
-    }
+    let list = list_of(alloc, words)?;
     for item in list.as_slice() {
         page.named("", *item);
     }
     page.text("\n");
     Some(())
+}
+
+fn list_of(alloc: Global, words: Words<'_>) -> Option<List<u32>> {
+    let mut list = List::new(alloc);
+    for word in words.rest.split(' ') {
+        list.push(word.parse().ok()?).ok()?;
+    }
+    Some(list)
 }

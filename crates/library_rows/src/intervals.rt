@@ -1,8 +1,8 @@
 //! What relations say of two intervals, and the orders of points that they are.
+use crate::page::Page;
 use crate::words::Words;
 use named::Named;
 use net_core::{Atom, Ends, Rel, atoms_of, holds};
-use rows::Page;
 
 /// How many orders are printed of each relation, none of which has more than four.
 const ASKED: u32 = 5;

@@ -7,6 +7,7 @@ mod intervals;
 mod markup;
 mod nets;
 mod orders;
+mod page;
 mod possible;
 mod readers;
 mod script;

@@ -2,9 +2,9 @@
 ghost use Rattle.net_core.specs.Limits.{max_evidence};
 ghost use Rattle.std.specs.Prelude.{◌≤◌, length};
 
+use crate::page::Page;
 use crate::words::Words;
 use named::Named;
-use rows::Page;
 use std::alloc::Global;
 use tml_canon::canon;
 use tml_span::{Cut, reader, units};
@@ -101,17 +101,24 @@ pub fn print_canon(page: &mut Page, alloc: Global, text: &[u8]) -> Option<()>
 
 /// Prints the name and the place of the tag outside all others, of the part of it with the number that follows, or of a
 /// part of that one.
-pub fn print_tag(page: &mut Page, alloc: Global, text: &[u8], mut words: Words<'_>) -> Option<()>
+pub fn print_tag(page: &mut Page, alloc: Global, text: &[u8], words: Words<'_>) -> Option<()>
     requires { length text.now ≤ max_evidence }
 {
     let tree = tree_of(alloc, text)?;
-    let root = tree.root();
-    match (words.number(), words.number()) {
-        (Some(first), Some(second)) => print_place(page, child(child(root, first)?, second)?),
-        (Some(first), None) => print_place(page, child(root, first)?),
-        _ => print_place(page, root),
-    }
+    print_place(page, part_of(tree.root(), words)?);
     Some(())
+}
+
+/// The part of a tag that the numbers lead to that follow, of which there are two at most.
+fn part_of<'t, 's>(root: &'t Tag<'s>, mut words: Words<'_>) -> Option<&'t Tag<'s>> {
+    let Some(first) = words.number() else {
+        return Some(root);
+    };
+    let part = child(root, first)?;
+    match words.number() {
+        Some(second) => child(part, second),
+        None => Some(part),
+    }
 }
 
 fn print_place(page: &mut Page, tag: &Tag<'_>) {

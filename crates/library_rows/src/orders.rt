@@ -1,8 +1,8 @@
 //! Tables of orders.
+use crate::page::Page;
 use crate::words::Words;
 use net_core::{Atom, Memory};
 use order_closure::{Cell, Closed, MAX_TABLE_POINTS};
-use rows::Page;
 use std::alloc::Global;
 use timeline::least;
 

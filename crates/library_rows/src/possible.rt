@@ -1,7 +1,7 @@
 //! Items of base relations, which no command takes.
+use crate::page::Page;
 use crate::words::Words;
 use net_core::{Net, Ranks};
-use rows::Page;
 use std::alloc::Global;
 use tml_possible::{PossibleItem, check_possible};
 

@@ -1,10 +1,10 @@
 //! Readers: of the units of a text, and of files on a disk.
 ghost use Rattle.net_core.specs.Limits.{max_evidence};
-ghost use Rattle.std.specs.Prelude.{◌≤◌, length};
+ghost use Rattle.std.specs.Prelude.{◌≡◌, ◌≤◌, length};
 
 use crate::markup::print_tree_fault;
+use crate::page::Page;
 use crate::words::Words;
-use rows::Page;
 use std::alloc::Global;
 use tml_io::{Failed, FileInputs, Inputs};
 use tml_span::{UnitReader, reader};
@@ -24,14 +24,20 @@ pub fn print_nesting(page: &mut Page, alloc: Global, text: &[u8]) -> Option<()>
     requires { length text.now ≤ max_evidence }
 {
     let mut units = reader(text).ok()?;
-    match tree_from(alloc, &mut units) {
-        Ok(_tree) => page.text("a tree\n"),
-        Err(why) => print_tree_fault(page, why),
-    }
+    print_whether_they_nest(page, alloc, &mut units);
     page.named("at", units.place());
     page.text("\n");
     print_two(page, alloc, &mut units);
     Some(())
+}
+
+fn print_whether_they_nest(page: &mut Page, alloc: Global, units: &mut UnitReader<'_>)
+    requires { units.old.place ≡ 0 }
+{
+    match tree_from(alloc, units) {
+        Ok(_tree) => page.text("a tree\n"),
+        Err(why) => print_tree_fault(page, why),
+    }
 }
 
 fn print_two(page: &mut Page, alloc: Global, units: &mut UnitReader<'_>) {

@@ -3,11 +3,11 @@ ghost use Rattle.net_core.specs.Limits.{max_evidence};
 ghost use Rattle.std.specs.Prelude.{◌≤◌, IfSome, length};
 
 use crate::nets::Drawn;
+use crate::page::Page;
 use crate::words::Words;
 use crate::{dates, intervals, markup, orders, readers, tags, texts, values, verdicts, walking};
 use net_core::MAX_EVIDENCE;
 use order_closure::Closed;
-use rows::Page;
 use std::alloc::Global;
 
 /// A text that lines of the script may name.
@@ -109,7 +109,10 @@ impl Script {
     /// Prints the answer to a line, by what it is about.
     fn answer(&mut self, rt: &HostRuntime, word: &str, words: Words<'_>) -> Option<()> {
         match word {
-            "table" | "copy" | "close" => self.set_table(word, words),
+            "table" | "copy" | "close" => {
+                self.table = Some(self.new_table(word, words)?);
+                Some(())
+            }
             "weak" | "strict" | "rows" | "cells" | "least" => {
                 let table = self.table.as_mut()?;
                 orders::answer(&mut self.page, self.alloc, table, word, words)
@@ -125,26 +128,31 @@ impl Script {
                     words,
                 )
             }
-            "atoms" | "holding" => intervals::answer(&mut self.page, word, words),
-            "value" | "years" => values::answer(&mut self.page, word, words),
-            "civil" | "drill" | "list" => dates::answer(&mut self.page, self.alloc, word, words),
             "files" => {
                 readers::print_files(&mut self.page, rt, words);
                 Some(())
             }
-            _ => self.answer_of_text(word, words),
+            _ => self.answer_of_words(word, words),
         }
     }
 
-    /// Makes another table.
-    fn set_table(&mut self, word: &str, mut words: Words<'_>) -> Option<()> {
-        let table = match word {
-            "table" => orders::table_of(self.alloc, words.number()?)?,
-            "copy" => orders::copy_of(self.alloc, self.table.as_ref()?)?,
-            _ => walking::closure_of(self.alloc, &self.net.net(self.alloc)?)?,
-        };
-        self.table = Some(table);
-        Some(())
+    /// Another table.
+    fn new_table(&self, word: &str, mut words: Words<'_>) -> Option<Closed> {
+        match word {
+            "table" => orders::table_of(self.alloc, words.number()?),
+            "copy" => orders::copy_of(self.alloc, self.table.as_ref()?),
+            _ => walking::closure_of(self.alloc, &self.net.net(self.alloc)?),
+        }
+    }
+
+    /// Prints the answer to a line that is about its own words, or about a text.
+    fn answer_of_words(&mut self, word: &str, words: Words<'_>) -> Option<()> {
+        match word {
+            "atoms" | "holding" => intervals::answer(&mut self.page, word, words),
+            "value" | "years" => values::answer(&mut self.page, word, words),
+            "civil" | "drill" | "list" => dates::answer(&mut self.page, self.alloc, word, words),
+            _ => self.answer_of_text(word, words),
+        }
     }
 
     /// Prints the answer to a line about the text of the name that follows.
@@ -159,13 +167,9 @@ impl Script {
         let alloc = *alloc;
         let text = text_of(texts, words.word())?;
         match word {
-            "again" => texts::print_again(page, alloc, text),
-            "one" => texts::print_one(page, alloc, text),
-            "claims" => texts::print_claims(page, alloc, text),
-            "bundle" => texts::print_bundle(page, alloc, text),
+            "again" | "one" | "claims" | "bundle" => texts::answer(page, alloc, text, word),
             "join" => texts::print_joined(page, alloc, text, text_of(texts, words.word())?),
-            "verify" => verdicts::print_verdict(page, alloc, &net.net(alloc)?, text),
-            "verify-all" => verdicts::print_verdicts(page, alloc, &net.net(alloc)?, text),
+            "verify" | "verify-all" => verdicts::answer(page, alloc, &net.net(alloc)?, text, word),
             _ => return answer_of_markup(page, alloc, text, word, words),
         }
         Some(())

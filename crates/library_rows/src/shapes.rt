@@ -1,5 +1,5 @@
 //! What calendar values say beside their years.
-use rows::Page;
+use crate::page::Page;
 use timex_value::{Part, Shape};
 
 /// Prints how fine a value is, and its fields from the largest on.

@@ -3,26 +3,37 @@ ghost use Rattle.net_core.specs.Limits.{max_evidence};
 ghost use Rattle.std.specs.Prelude.{◌≤◌, length};
 
 use crate::markup::tree_of;
+use crate::page::Page;
 use crate::values::print_said;
 use crate::words::Words;
 use named::Named;
-use rows::Page;
 use std::alloc::Global;
-use tml_refs::resolve;
-use tml_types::{LinkEnd, TypedTag, type_tags};
+use tml_refs::{Document, resolve};
+use tml_types::{LinkEnd, Typed, TypedTag, type_tags};
 
 /// Prints the typed tags of a text, each on a line with its place and what it carries.
 pub fn print_typed(page: &mut Page, alloc: Global, text: &[u8]) -> Option<()>
     requires { length text.now ≤ max_evidence }
 {
+    let typed = typed_of(alloc, text)?;
+    print_tags(page, typed.as_slice());
+    Some(())
+}
+
+/// The typed tags of a text, if it has them.
+fn typed_of<'t>(alloc: Global, text: &'t [u8]) -> Option<Typed<'t>>
+    requires { length text.now ≤ max_evidence }
+{
     let tree = tree_of(alloc, text)?;
-    let typed = type_tags(alloc, &tree).ok()?;
-    for tag in typed.as_slice() {
+    type_tags(alloc, &tree).ok()
+}
+
+fn print_tags(page: &mut Page, tags: &[TypedTag<'_>]) {
+    for tag in tags {
         page.number(u64::from(tag.place()));
         print_tag(page, *tag);
         page.text("\n");
     }
-    Some(())
 }
 
 fn print_tag(page: &mut Page, tag: TypedTag<'_>) {
@@ -107,9 +118,7 @@ fn print_link(page: &mut Page, tag: TypedTag<'_>) {
             right,
             ..
         } => {
-            page.text(" TLINK");
-            print_field(page, "lid", lid);
-            print_field(page, "signalID", signal);
+            print_names(page, " TLINK", lid, signal);
             print_end(page, left);
             print_value(page, "relType", Some(rel));
             print_end(page, right);
@@ -122,9 +131,7 @@ fn print_link(page: &mut Page, tag: TypedTag<'_>) {
             rel,
             ..
         } => {
-            page.text(" ALINK");
-            print_field(page, "lid", lid);
-            print_field(page, "signalID", signal);
+            print_names(page, " ALINK", lid, signal);
             print_field(page, "eventInstanceID", Some(event));
             print_field(page, "relatedToEventInstance", Some(related));
             print_value(page, "relType", Some(rel));
@@ -137,15 +144,20 @@ fn print_link(page: &mut Page, tag: TypedTag<'_>) {
             rel,
             ..
         } => {
-            page.text(" SLINK");
-            print_field(page, "lid", lid);
-            print_field(page, "signalID", signal);
+            print_names(page, " SLINK", lid, signal);
             print_field(page, "eventInstanceID", event);
             print_field(page, "subordinatedEventInstance", Some(subordinated));
             print_value(page, "relType", Some(rel));
         }
         _ => page.text(" no link"),
     }
+}
+
+/// Prints the name of a link's tag, and the identifiers of the link and of its signal.
+fn print_names(page: &mut Page, tag: &str, lid: Option<&[u8]>, signal: Option<&[u8]>) {
+    page.text(tag);
+    print_field(page, "lid", lid);
+    print_field(page, "signalID", signal);
 }
 
 fn print_end(page: &mut Page, end: LinkEnd<'_>) {
@@ -184,16 +196,19 @@ fn print_temporal(page: &mut Page, temporal: Option<bool>) {
 pub fn print_intervals(page: &mut Page, alloc: Global, text: &[u8], words: Words<'_>) -> Option<()>
     requires { length text.now ≤ max_evidence }
 {
-    let tree = tree_of(alloc, text)?;
-    let typed = type_tags(alloc, &tree).ok()?;
+    let typed = typed_of(alloc, text)?;
     let document = resolve(alloc, &typed).ok()?;
+    print_numbers(page, &document, words);
+    Some(())
+}
+
+fn print_numbers(page: &mut Page, document: &Document<'_>, words: Words<'_>) {
     page.named("intervals", document.intervals());
     page.text(":");
     for name in words.rest.split(' ') {
         print_number(page, document.index_of(name.as_bytes()));
     }
     page.text("\n");
-    Some(())
 }
 
 fn print_number(page: &mut Page, number: Option<u32>) {

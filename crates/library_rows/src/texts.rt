@@ -4,12 +4,12 @@ ghost use Rattle.evidence_format.specs.View.{plain_body};
 ghost use Rattle.net_core.specs.Limits.{max_evidence};
 ghost use Rattle.std.specs.Prelude.{◌≤◌, length};
 
+use crate::page::Page;
 use evidence_format::{
     Body, Bundle, ReadEvidence, Unread, read_bundle, read_evidence, write_bundle, write_claim,
     write_evidence,
 };
 use net_core::{List, Memory};
-use rows::Page;
 use std::alloc::Global;
 
 /// Prints a text that was written.
@@ -31,8 +31,20 @@ pub fn print_unread(page: &mut Page, why: ReadEvidence) {
     }
 }
 
+/// Prints the answer to a line about the evidence of one text.
+pub fn answer(page: &mut Page, alloc: Global, text: &[u8], word: &str)
+    requires { length text.now ≤ max_evidence }
+{
+    match word {
+        "again" => print_again(page, alloc, text),
+        "one" => print_one(page, alloc, text),
+        "claims" => print_claims(page, alloc, text),
+        _ => print_bundle(page, alloc, text),
+    }
+}
+
 /// Prints the text of version 1 of the evidence that a text is.
-pub fn print_again(page: &mut Page, alloc: Global, text: &[u8])
+fn print_again(page: &mut Page, alloc: Global, text: &[u8])
     requires { length text.now ≤ max_evidence }
 {
     match read_evidence(alloc, text) {
@@ -42,7 +54,7 @@ pub fn print_again(page: &mut Page, alloc: Global, text: &[u8])
 }
 
 /// Prints the text of version 2 of the evidence that a text of version 1 is.
-pub fn print_one(page: &mut Page, alloc: Global, text: &[u8])
+fn print_one(page: &mut Page, alloc: Global, text: &[u8])
     requires { length text.now ≤ max_evidence }
 {
     let evidence = match read_evidence(alloc, text) {
@@ -56,7 +68,7 @@ pub fn print_one(page: &mut Page, alloc: Global, text: &[u8])
 }
 
 /// Prints the text of version 2 of the claims that a text of either version has.
-pub fn print_bundle(page: &mut Page, alloc: Global, text: &[u8])
+fn print_bundle(page: &mut Page, alloc: Global, text: &[u8])
     requires { length text.now ≤ max_evidence }
 {
     match read_bundle(alloc, text) {
@@ -66,7 +78,7 @@ pub fn print_bundle(page: &mut Page, alloc: Global, text: &[u8])
 }
 
 /// Prints the claims of a text of either version as they are read one after another, each as a text of version 2.
-pub fn print_claims(page: &mut Page, alloc: Global, text: &[u8])
+fn print_claims(page: &mut Page, alloc: Global, text: &[u8])
     requires { length text.now ≤ max_evidence }
 {
     let mut unread = match Unread::of_text(text) {

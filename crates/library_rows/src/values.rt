@@ -1,7 +1,7 @@
 //! What values of times say: durations with their counts, and calendar values with their fields.
+use crate::page::Page;
 use crate::shapes::print_shape;
 use crate::words::Words;
-use rows::Page;
 use timex_value::{BadDate, Count, Length, Value, Year, read_value};
 
 /// Prints the answer to a line about a value.

@@ -2,15 +2,25 @@
 ghost use Rattle.net_core.specs.Limits.{max_evidence};
 ghost use Rattle.std.specs.Prelude.{◌≤◌, length};
 
+use crate::page::Page;
 use crate::texts::print_unread;
 use evidence_check::{Claim, Reason, Refused, verify, verify_all};
 use evidence_format::{read_bundle, read_evidence};
 use net_core::Net;
-use rows::Page;
 use std::alloc::Global;
 
+/// Prints the answer to a line about a net and the evidence of a text.
+pub fn answer(page: &mut Page, alloc: Global, net: &Net, text: &[u8], word: &str)
+    requires { length text.now ≤ max_evidence }
+{
+    match word {
+        "verify" => print_verdict(page, alloc, net, text),
+        _ => print_verdicts(page, alloc, net, text),
+    }
+}
+
 /// Prints what the evidence of a text of version 1 shows of a net, or why it is refused.
-pub fn print_verdict(page: &mut Page, alloc: Global, net: &Net, text: &[u8])
+fn print_verdict(page: &mut Page, alloc: Global, net: &Net, text: &[u8])
     requires { length text.now ≤ max_evidence }
 {
     match read_evidence(alloc, text) {
@@ -23,7 +33,7 @@ pub fn print_verdict(page: &mut Page, alloc: Global, net: &Net, text: &[u8])
 }
 
 /// Prints that all claims of a text of either version are supported over a net, or the first that is refused, and why.
-pub fn print_verdicts(page: &mut Page, alloc: Global, net: &Net, text: &[u8])
+fn print_verdicts(page: &mut Page, alloc: Global, net: &Net, text: &[u8])
     requires { length text.now ≤ max_evidence }
 {
     match read_bundle(alloc, text) {

@@ -3,12 +3,12 @@ ghost use Rattle.net_core.specs.Nets.{points};
 ghost use Rattle.std.specs.Prelude.{◌≡◌, ◌<◌, length};
 
 use crate::intervals::print_atom;
+use crate::page::Page;
 use crate::possible;
 use crate::words::Words;
 use clash::close;
 use net_core::{Memory, Net, Step, Walk, step_atom};
 use order_closure::Closed;
-use rows::Page;
 use std::alloc::Global;
 use tml_score::reduce;
 use walks::walk;

@@ -1,12 +1,16 @@
 //! The command `drill`: what the other commands answer to the document of a drill.
+ghost use Rattle.clash.specs.Closures.{IsClosureOf};
+ghost use Rattle.derive_rel.specs.Entailed.{AreRows};
+ghost use Rattle.derive_rel.specs.declared.all_rows.Row.{Row};
 ghost use Rattle.drill.specs.Laws.{IsDrill};
 ghost use Rattle.drill.specs.Texts.{drill_contents, drill_document};
 ghost use Rattle.net_build.specs.Built.{IsNetOf};
+ghost use Rattle.net_core.specs.Entailment.{HasTimeline};
 ghost use Rattle.net_core.specs.Fits.{RanksFit};
 ghost use Rattle.net_core.specs.Limits.{max_points};
 ghost use Rattle.net_core.specs.Nets.{PlainNet};
 ghost use Rattle.order_answers.specs.Drill.{IsGreatest, OfDrill, drill_number, figure_lines};
-ghost use Rattle.std.specs.Prelude.{◌++◌, ◌<◌, ◌≡◌, ◌≤◌, IfOk, IfSome, OnOk, codes, length, slice_index, ℕ};
+ghost use Rattle.std.specs.Prelude.{◌++◌, ◌<◌, ◌%◌, ◌≡◌, ◌≤◌, IfOk, IfSome, List, OnOk, codes, length, slice_index, ℕ};
 ghost use Rattle.tml_accept.specs.Acceptance.{Says};
 ghost use Rattle.runs.specs.View.{finding_status};
 
@@ -18,7 +22,8 @@ use drill::drill_text;
 use evidence_answers::verdict;
 use itoa::Buffer;
 use net_build::net_of;
-use net_core::{MAX_INTERVALS, Ranks};
+use net_core::{MAX_INTERVALS, Net, Ranks};
+use order_closure::Closed;
 use runs::{Answer, Finding};
 use std::alloc::{AllocError, Global};
 use timeline::least;
@@ -85,21 +90,39 @@ fn of_document(
     ensures { IfOk result (λ answer. OfDrill n (finding_status answer.finding) answer.text.items) }
 {
     let net = net_of(alloc, document)?;
-    let table = match close(alloc, &net) {
-        Ok(table) => table,
-        Err(CloseFault::Clash(_)) => unreachable!(),
-        Err(CloseFault::Memory) => return Err(AllocError),
-    };
+    let table = table_of(alloc, &net)?;
     let ranks = least(alloc, &table)?;
-    let rows = rows(alloc, &table)?;
+    let relations = relations_of(alloc, &table)?;
     let figures = Figures {
         drill: n,
         bytes,
         links: net.links(),
         greatest: greatest(ranks.as_slice()),
-        relations: rows.as_slice().len(),
+        relations,
     };
     with_verdict(alloc, figures, document, ranks)
+}
+
+/// The closure of a net that some timeline fits.
+fn table_of(alloc: Global, net: &Net) -> Result<Closed, AllocError>
+    requires { HasTimeline net.now }
+    ensures closure { IfOk result (IsClosureOf net.now) }
+    ensures few { IfOk result (λ table. table.points ≤ max_points) }
+{
+    match close(alloc, net) {
+        Ok(table) => Ok(table),
+        Err(CloseFault::Clash(_)) => unreachable!(),
+        Err(CloseFault::Memory) => Err(AllocError),
+    }
+}
+
+/// How many relations follow from a table.
+fn relations_of(alloc: Global, table: &Closed) -> Result<usize, AllocError>
+    requires { table.now.points % 2 ≡ 0 }
+    ensures { IfOk result (λ number. (all : List Row) × AreRows table.now all × (number ≡ length all)) }
+{
+    let rows = rows(alloc, table)?;
+    Ok(rows.as_slice().len())
 }
 
 /// The lines of a summary, of which the last is the verdict on evidence of the timeline.

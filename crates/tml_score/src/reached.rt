@@ -105,3 +105,20 @@ pub struct Sides {
     pub onward: ReachedPoints,
     pub back: ReachedPoints,
 }
+
+impl Sides {
+    /// No points yet on either side, of this number.
+    ///
+    /// # Errors
+    ///
+    /// Out of memory.
+    pub fn new(alloc: Global, room: u32) -> Result<Sides, Memory>
+        requires { room ≤ max_points }
+        ensures { IfOk result (λ sides. (sides.onward.room ≡ room) × (sides.back.room ≡ room)) }
+    {
+        Ok(Sides {
+            onward: ReachedPoints::new(alloc, room)?,
+            back: ReachedPoints::new(alloc, room)?,
+        })
+    }
+}

@@ -10,7 +10,7 @@ ghost use Rattle.tml_score.specs.Search.{Decides, HaveRoom, IsAsked, IsReady, ba
 ghost use Rattle.tml_score.specs.Trees.{AreTrees};
 
 use crate::graph::Graph;
-use crate::reached::{ReachedPoints, Sides};
+use crate::reached::Sides;
 use crate::search::{AskedOrder, KeptLinks};
 use crate::trees::Trees;
 use clash::{CloseFault, close, marked};
@@ -61,10 +61,7 @@ fn marks(alloc: Global, net: &Net, table: &Closed, graph: &Graph) -> Result<Vec<
     ensures { IfOk result (λ keep. AreDecided net.now (length net.now.links) keep.items) }
 {
     let mut keep = vec![in alloc; true; net.links() as usize]?;
-    let mut sides = Sides {
-        onward: ReachedPoints::new(alloc, table.points())?,
-        back: ReachedPoints::new(alloc, table.points())?,
-    };
+    let mut sides = Sides::new(alloc, table.points())?;
     let all = KeptLinks {
         net,
         table,
@@ -79,7 +76,6 @@ fn marks(alloc: Global, net: &Net, table: &Closed, graph: &Graph) -> Result<Vec<
             graph,
             keep: &keep,
         };
-        trees.refresh(&kept, link)?;
         if link_follows(&kept, link, &mut trees, &mut sides)? {
             keep[link as usize] = false;
             trees.cut(link);
@@ -104,6 +100,7 @@ fn link_follows(
     ensures trees { OnOk result (AreTrees (basis_of kept.now) trees.new) }
     ensures room { OnOk result (HaveRoom (basis_of kept.now) sides.new) }
 {
+    trees.refresh(kept, link)?;
     let atoms = atoms_of_link(kept.net, link);
     for number in 0..atoms.count() {
         let order = nth_order(&atoms, number);

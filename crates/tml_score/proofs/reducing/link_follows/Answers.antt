@@ -11,7 +11,7 @@ use Rattle.tml_score.specs.declared.search.AskedOrder.{AskedOrder}
 use Rattle.tml_score.proofs.reducing.link_follows.Goals as goal
 
 pub loop-number-init : goal.loop-number-init
-loop-number-init c = record { end = c.count-number-end.ensures.count; trees = c.requires.trees; room = c.requires.room; hold = λ t fits k d lt. absurd (omega arith) }
+loop-number-init c = record { end = c.count-number-end.ensures.count; trees = c.in_ok-refresh.ensures; room = c.requires.room; hold = λ t fits k d lt. absurd (omega arith) }
 
 pub order_follows-requires : goal.order_follows-requires
 order_follows-requires c =

@@ -1,7 +1,6 @@
 use Rattle.std.proofs.Common.{◌≡◌, ◌+◌, ◌<◌, ℕ, Bool, true, false, List, length, replicate, slice_set, ap, sym, subst, ◌∙◌, arith, rules}
 use Rattle.net_core.specs.Nets.{PlainNet}
 use Rattle.order_closure.specs.Tables.{Table}
-use Rattle.tml_score.specs.Reached.{PlainReached}
 use Rattle.tml_score.specs.Reducing.{AreDecided, DecidesLink}
 use Rattle.tml_score.specs.Search.{Basis}
 use Rattle.tml_score.specs.Trees.{AreTrees}
@@ -15,8 +14,8 @@ use Rattle.tml_score.proofs.reducing.marks.Goals.{then-branch, else-branch}
 abbrev with_marks : PlainNet → Table → Graph → List Bool → Basis
 with_marks net table graph keep = record { net = net; table = table; graph = graph; keep = keep }
 
-pub new-requires-3 : goal.new-requires-3
-new-requires-3 c =
+pub new-requires-2 : goal.new-requires-2
+new-requires-2 c =
     let net = c.args.net.now in
     let all : c.deref.result.now ≡ replicate (length net.links) true = c.deref.ensures.value ∙ c.in_ok-keep.ensures.items_if_clones_equal (λ y e. e) ∙ ap (λ (n : ℕ). replicate n true) c.links.ensures.count in
     ready_so_far (with_marks net c.args.table.now c.args.graph.now c.deref.result.now) 0 c.links.ensures.net c.requires.fits c.requires.closure c.requires.graph (subst (AreDecided net 0) (sym all) (none_decided net))
@@ -27,23 +26,10 @@ loop-link-init c =
     let all : c.in_ok-keep.keep.items ≡ replicate (length net.links) true = c.in_ok-keep.ensures.items_if_clones_equal (λ y e. e) ∙ ap (λ (n : ℕ). replicate n true) c.links.ensures.count in
     record {
       end = c.links-link-end.ensures.count;
-      room = (
-        ap (λ (r : PlainReached). r.room) c.in_ok-new.ensures ∙ c.points.ensures.points ∙ c.requires.closure.size,
-        ap (λ (r : PlainReached). r.room) c.in_ok-new-2.ensures ∙ c.points-2.ensures.points ∙ c.requires.closure.size,
-      );
+      room = (c.in_ok-sides.ensures.0 ∙ c.points.ensures.points ∙ c.requires.closure.size, c.in_ok-sides.ensures.1 ∙ c.points.ensures.points ∙ c.requires.closure.size);
       trees = subst (λ (ks : List Bool). AreTrees (with_marks net c.args.table.now c.args.graph.now ks) c.in_ok-trees.trees) c.deref.ensures.value c.in_ok-trees.ensures;
       so_far = subst (AreDecided net 0) (sym all) (none_decided net);
     }
-
-pub refresh-requires-clause-ready : goal.refresh-requires-clause-ready
-refresh-requires-clause-ready c =
-    let net = c.args.net.now in
-    ready_so_far (with_marks net c.args.table.now c.args.graph.now c.deref-in-loop-link.result.now) c.loop-link.link c.links.ensures.net c.requires.fits c.requires.closure c.requires.graph
-    (subst (AreDecided net c.loop-link.link) (sym c.deref-in-loop-link.ensures.value) c.loop-link.invariant.so_far)
-
-pub refresh-requires-clause-trees : goal.refresh-requires-clause-trees
-refresh-requires-clause-trees c =
-    subst (λ (ks : List Bool). AreTrees (with_marks c.args.net.now c.args.table.now c.args.graph.now ks) c.loop-link.trees) (sym c.deref-in-loop-link.ensures.value) c.loop-link.invariant.trees
 
 pub link_follows-requires : goal.link_follows-requires
 link_follows-requires c =
@@ -55,7 +41,7 @@ link_follows-requires c =
       ready = ready_so_far (with_marks net c.args.table.now c.args.graph.now c.deref-in-loop-link.result.now) link c.links.ensures.net c.requires.fits c.requires.closure c.requires.graph so_far;
       link = below;
       kept = so_far.later link (omega arith) below;
-      trees = c.in_ok-refresh.ensures;
+      trees = subst (λ (ks : List Bool). AreTrees (with_marks net c.args.table.now c.args.graph.now ks) c.loop-link.trees) (sym c.deref-in-loop-link.ensures.value) c.loop-link.invariant.trees;
       room = c.loop-link.invariant.room;
     }
 

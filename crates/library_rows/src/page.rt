@@ -1,7 +1,7 @@
 //! A page, which is written piece by piece.
 use std::alloc::{AllocError, Global};
 
-/// A text that is written piece by piece. Whoever writes need not ask after each piece whether there was memory for it:
+/// A text that is written piece by piece. Whoever writes need not check after each piece whether there was memory for it:
 /// a page that lacks one is never given out.
 #[derive(Drop)]
 pub struct Page {
