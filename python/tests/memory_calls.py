@@ -25,8 +25,8 @@ CRATES = TOP / "crates"
 PAGE = TOP / "python" / "tests" / "memory_calls.md"
 HEAD = "| crate | call | shown by |\n|---|---|---|\n"
 
-OUT_OF_MEMORY = {"Memory", "NoMemory", "AllocError", "AllocFailed", "Fault"}
-"""The types and the variants that say so. The `Fault` of acceptance is `None` there."""
+OUT_OF_MEMORY = {"Memory", "NoMemory", "AllocError", "AllocFailed"}
+"""The types and the variants that say so."""
 ROWS = ("library_rows", "command_rows")
 """The programs whose output is compared with what is wanted. What `command_rows` asks `run` is known by its commands."""
 COMMANDS = CRATES / "tml_tool" / "src" / "commands.rt"

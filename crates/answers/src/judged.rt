@@ -55,7 +55,7 @@ fn document_of(alloc: Global, doc: &[u8]) -> Result<Document<'_>, Reply>
 {
     match accept(alloc, doc) {
         Ok(document) => Ok(document),
-        Err(fault) => Err(Reply::from_answer(refusal(alloc, fault))),
+        Err(why) => Err(Reply::from_answer(refusal(alloc, why))),
     }
 }
 

@@ -48,7 +48,7 @@ impl<A: DocumentQuery> FileQuery for OfContents<'_, A> {
     fn answer(&self, alloc: Global, bytes: &[u8]) -> Result<Answer, AllocError> {
         match accept(alloc, bytes) {
             Ok(document) => self.asked.answer(alloc, &document),
-            Err(fault) => refusal(alloc, fault),
+            Err(why) => refusal(alloc, why),
         }
     }
 }

@@ -10,6 +10,7 @@ use answers::refusal;
 use itoa::write_digits;
 use runs::{Answer, FileQuery};
 use std::alloc::{AllocError, Global};
+use tml_accept::Refusal;
 use tml_span::{Attr, Cut, Cutter, Span, Unit, cut_of};
 
 /// The command `spans`.
@@ -28,7 +29,7 @@ impl FileQuery for Spans {
     fn answer(&self, alloc: Global, bytes: &[u8]) -> Result<Answer, AllocError> {
         match unit_table(alloc, bytes) {
             Ok(table) => Ok(Answer::done(table)),
-            Err(cut) => refusal(alloc, cut.kind_and_place()),
+            Err(cut) => refusal(alloc, Refusal::of(cut.kind_and_place())),
         }
     }
 }

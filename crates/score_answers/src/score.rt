@@ -1,6 +1,6 @@
 //! The command `score`: how much of a document follows from a key, and how much of the key from the document.
 ghost use Rattle.score_answers.specs.Score.{HasKeyLine, scores_text as text_of_scores};
-ghost use Rattle.std.specs.Prelude.{◌≡◌, codes, IfOk, Some};
+ghost use Rattle.std.specs.Prelude.{◌≡◌, codes, IfOk};
 
 use crate::counts::push_of;
 use answers::{JudgedQuery, refusal};
@@ -11,7 +11,7 @@ use net_core::{Memory, Net};
 use order_closure::Closed;
 use runs::{Answer, Finding};
 use std::alloc::{AllocError, Global};
-use tml_accept::{Fault, accept};
+use tml_accept::{Refusal, accept};
 use tml_refs::Document;
 use tml_score::{Scores, score};
 
@@ -37,7 +37,7 @@ impl JudgedQuery for Score {
     ) -> Result<Answer, AllocError> {
         match accept(alloc, bytes) {
             Ok(key) => answer_of_net(alloc, &Against { key: &key }, document),
-            Err(fault) => key_refusal(alloc, fault),
+            Err(why) => key_refusal(alloc, why),
         }
     }
 }
@@ -83,15 +83,15 @@ impl NetQuery for Against<'_, '_> {
     }
 }
 
-/// The answer to a key with this fault: its line, after the word for the key.
-fn key_refusal(alloc: Global, fault: Fault) -> Result<Answer, AllocError>
+/// The answer to a key that is refused: the line of its fault, after the word for the key.
+fn key_refusal(alloc: Global, why: Refusal) -> Result<Answer, AllocError>
     ensures finding { IfOk result (λ answer. answer.finding ≡ Finding.DocFault) }
-    ensures line { IfOk result (λ answer. HasKeyLine (λ kind place. fault ≡ Some (kind, place)) answer.text.items) }
+    ensures line { IfOk result (λ answer. HasKeyLine (λ kind place. why ≡ Refusal.Fault kind place) answer.text.items) }
 {
     let Answer {
         finding,
         text: line,
-    } = refusal(alloc, fault)?;
+    } = refusal(alloc, why)?;
     let mut text = Vec::from_slice(alloc, b"key ")?;
     text.extend_from_slice(line.as_slice())?;
     Ok(Answer { finding, text })

@@ -3,6 +3,8 @@
 
 mod accepting;
 mod laws;
+mod refusal;
 
-pub use accepting::{Fault, accept};
+pub use accepting::accept;
 pub use laws::{every_document_is_judged, one_acceptance};
+pub use refusal::Refusal;

@@ -1,7 +1,8 @@
 //! The canonical text of a document.
-ghost use Rattle.std.specs.Prelude.{◌≤◌, length, IfOk, IfErr, IfSome, OnOk};
+ghost use Rattle.std.specs.Prelude.{◌≤◌, length, IfOk, IfErr, OnOk};
 ghost use Rattle.net_core.specs.Limits.{max_document};
-ghost use Rattle.tml_accept.specs.Acceptance.{Accepted, FirstFault};
+ghost use Rattle.tml_accept.specs.Acceptance.{Accepted};
+ghost use Rattle.tml_accept.specs.Refusals.{IsRefusal};
 ghost use Rattle.tml_canon.specs.Canonical.{IsCanonicalText};
 ghost use Rattle.tml_canon.specs.Taking.{HasWrittenAll, MayTakeTag, TakesTag};
 ghost use Rattle.tml_canon.specs.Writing.{Writes};
@@ -10,7 +11,7 @@ ghost use Rattle.tml_span.specs.View.{unit_of};
 use crate::writer::Writer;
 use net_core::Memory;
 use std::alloc::{AllocError, Global};
-use tml_accept::Fault;
+use tml_accept::Refusal;
 use tml_io::List;
 use tml_refs::Resolver;
 use tml_span::Unit;
@@ -21,21 +22,21 @@ use tml_types::{TagReader, TypedTag};
 ///
 /// # Errors
 ///
-/// The first fault, as `accept` has it. Out of memory it is None.
-pub fn canonical_text(alloc: Global, doc: &[u8]) -> Result<List<u8>, Fault>
+/// The first fault, as `accept` has it; or out of memory.
+pub fn canonical_text(alloc: Global, doc: &[u8]) -> Result<List<u8>, Refusal>
     requires { length doc.now ≤ max_document }
     ensures accepted { IfOk result (λ text. Accepted doc.now) }
     ensures text { IfOk result (λ text. IsCanonicalText doc.now text) }
-    ensures err { IfErr result (λ fault. IfSome fault (λ f. FirstFault doc.now f.0 f.1)) }
+    ensures err { IfErr result (IsRefusal doc.now) }
 {
     let taken = take_all(alloc, doc)?;
     match taken.resolver.finish() {
         Ok(_) => {}
-        Err(fault) => return Err(fault.kind_and_place()),
+        Err(fault) => return Err(Refusal::of(fault.kind_and_place())),
     }
     match taken.writer.finish() {
         Ok(text) => Ok(List::from_vec(text)),
-        Err(AllocError) => Err(None),
+        Err(AllocError) => Err(Refusal::Memory),
     }
 }
 
@@ -62,14 +63,14 @@ impl<'s> Taken<'s> {
 }
 
 /// All that is taken of a document, or the first fault of its bytes, its units, their nesting or its attributes.
-fn take_all<'s>(alloc: Global, doc: &'s [u8]) -> Result<Taken<'s>, Fault>
+fn take_all<'s>(alloc: Global, doc: &'s [u8]) -> Result<Taken<'s>, Refusal>
     requires { length doc.now ≤ max_document }
     ensures ok { IfOk result (HasWrittenAll doc.now) }
-    ensures err { IfErr result (λ fault. IfSome fault (λ f. FirstFault doc.now f.0 f.1)) }
+    ensures err { IfErr result (IsRefusal doc.now) }
 {
     let mut tags = match TagReader::new(alloc, doc) {
         Ok(tags) => tags,
-        Err(cut) => return Err(Some(cut.kind_and_place())),
+        Err(cut) => return Err(Refusal::of(Some(cut.kind_and_place()))),
     };
     let mut taken = Taken {
         resolver: Resolver::new(alloc),
@@ -80,12 +81,12 @@ fn take_all<'s>(alloc: Global, doc: &'s [u8]) -> Result<Taken<'s>, Fault>
         match tags.pull_unit(alloc, &mut tag) {
             Ok(Some(unit)) => {
                 if taken.take(&unit, &tag).is_err() {
-                    return Err(tags.out_of_memory().kind_and_place());
+                    return Err(Refusal::of(tags.out_of_memory().kind_and_place()));
                 }
                 tags.take_back(unit);
             }
             Ok(None) => return Ok(taken),
-            Err(fault) => return Err(fault.kind_and_place()),
+            Err(fault) => return Err(Refusal::of(fault.kind_and_place())),
         }
     }
 }

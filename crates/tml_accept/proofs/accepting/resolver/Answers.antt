@@ -31,9 +31,9 @@ returns-then-is_err-clause-err c =
     let gives = rw c.in-Ok-Some.field-0-is at c.in-Ok-Some.ensures.gives in
     let more = gives c.args.doc.now typed given in
     let cut = c.out_of_memory.result in
-    rw c.kind_and_place-then-is_err.ensures (of_cut c.args.doc.now cut (subst (λ (doc : List ℕ). HasCutFault doc cut) more.0.1.source_is c.out_of_memory.ensures))
+    rw (c.of-then-is_err.ensures, c.kind_and_place-then-is_err.ensures) (of_cut c.args.doc.now cut (subst (λ (doc : List ℕ). HasCutFault doc cut) more.0.1.source_is c.out_of_memory.ensures))
 
 pub returns-in-Err-pull-clause-err : goal.returns-in-Err-pull-clause-err
 returns-in-Err-pull-clause-err c =
     let (typed, taken, given) = c.loop-tag.invariant in
-    rw c.kind_and_place-in-Err-pull.ensures (of_source c.args.doc.now c.in-Err-pull.fault (c.in-Err-pull.ensures.gives c.args.doc.now typed given))
+    rw (c.of-in-Err-pull.ensures, c.kind_and_place-in-Err-pull.ensures) (of_source c.args.doc.now c.in-Err-pull.fault (c.in-Err-pull.ensures.gives c.args.doc.now typed given))

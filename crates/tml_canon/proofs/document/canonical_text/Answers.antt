@@ -10,7 +10,7 @@ pub returns-in-Err-clause-err : goal.returns-in-Err-clause-err
 returns-in-Err-clause-err c =
     let all = c.in_ok-taken.ensures.ok in
     let (root, whole, document, types) = all.tree in
-    rw c.kind_and_place.ensures (of_typed c.args.doc.now root all.typed (kind_and_place c.in-Err.fault) ((all.us, whole, document), types) (c.in-Err.ensures.err all.typed all.taken))
+    rw (c.of.ensures, c.kind_and_place.ensures) (of_typed c.args.doc.now root all.typed (kind_and_place c.in-Err.fault) ((all.us, whole, document), types) (c.in-Err.ensures.err all.typed all.taken))
 
 pub returns-in-Ok-finish-clause-accepted : goal.returns-in-Ok-finish-clause-accepted
 returns-in-Ok-finish-clause-accepted c =

@@ -57,9 +57,9 @@ returns-then-is_err-clause-err c =
     let gives = rw c.in-Ok-Some.field-0-is at c.in-Ok-Some.ensures.gives in
     let more = gives.1 c.args.doc.now so_far.us so_far.typed so_far.given in
     let cut = c.out_of_memory.result in
-    rw c.kind_and_place-then-is_err.ensures (of_cut c.args.doc.now cut (subst (λ (doc : List ℕ). HasCutFault doc cut) more.0.source_is c.out_of_memory.ensures))
+    rw (c.of-then-is_err.ensures, c.kind_and_place-then-is_err.ensures) (of_cut c.args.doc.now cut (subst (λ (doc : List ℕ). HasCutFault doc cut) more.0.source_is c.out_of_memory.ensures))
 
 pub returns-in-Err-pull_unit-clause-err : goal.returns-in-Err-pull_unit-clause-err
 returns-in-Err-pull_unit-clause-err c =
     let so_far = c.loop-unit.invariant in
-    rw c.kind_and_place-in-Err-pull_unit.ensures (of_source c.args.doc.now c.in-Err-pull_unit.fault (c.in-Err-pull_unit.ensures.gives c.args.doc.now so_far.us so_far.typed so_far.given))
+    rw (c.of-in-Err-pull_unit.ensures, c.kind_and_place-in-Err-pull_unit.ensures) (of_source c.args.doc.now c.in-Err-pull_unit.fault (c.in-Err-pull_unit.ensures.gives c.args.doc.now so_far.us so_far.typed so_far.given))
