@@ -232,6 +232,15 @@ class Clashes(FigureTest):
             self.assertEqual("Solid: before; dashed: no later than." in said, points > 0)
             self.assertEqual("an interval starts before it ends" in said, points == 2)
 
+    def test_names_of_points_are_apart(self) -> None:
+        for count in range(3, 13):
+            links = "".join(link(number, "BEFORE", (number + 1) % count) for number in range(count))
+            picture = self.made(document("".join(event(number, f"event {number}") for number in range(count)) + links), status=1)
+            names = [one for one in ElementTree.fromstring(picture.encode()).iter(SVG + "text") if one.get("fill") == "none"]
+            self.assertEqual(len(names), count)
+            middles = [float(one.attrib["y"]) for one in names if one.get("text-anchor") == "middle"]
+            self.assertEqual(len(middles), len({*middles}), f"{count} points")
+
     def test_a_table_of_many_steps(self) -> None:
         links = "".join(link(number, "BEFORE", (number + 1) % 14) for number in range(14))
         content = document("".join(event(number, "a long name of an event, " * 4) for number in range(14)) + links)
@@ -242,6 +251,14 @@ class Clashes(FigureTest):
             self.assertEqual(rows, sorted({*rows}))
             cells = [one for one in shapes if one.get("text-anchor") is None and float(one.get("y", "")) <= rows[-1]]
             self.assertEqual(len({one.get("x") for one in cells}), 3, "columns")
+
+
+class Faults(FigureTest):
+    def test_the_place_is_that_of_the_message(self) -> None:
+        content = document(event(1) + link(1, "BEFORE", 3))
+        said = " ".join(self.texts(self.made(content, status=1)))
+        line, column = re.findall(r"^d\.xml:(\d+):(\d+): error", "\n".join(self.run_it("timeline", "--bare", "d.xml", "-o", "d.svg")[1]))[0]
+        self.assertIn(f"Line {line}, column {column}: UnknownReference", said)
 
 
 class Samples(FigureTest):

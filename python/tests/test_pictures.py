@@ -280,7 +280,9 @@ class Read(Pictures):
         """A text that is over a bar is the label of that bar, or the name of that date, and then it is inside."""
         for bar, box in itertools.product(picture.whole_bars(), text_boxes(picture)):
             if not apart(box, (bar.left, bar.top, bar.right, bar.bottom)):
-                is_own = labels[bar.name].startswith(box[4].rstrip("\u2026")[:70])
+                # A label that is cut has an ellipsis where words are missing.
+                parts = (re.escape(part[:70]) for part in box[4].split("\u2026"))
+                is_own = re.match(".*".join(parts), labels[bar.name], re.DOTALL) is not None
                 is_date = bar.classes[1] == "exact" and bar.left <= box[0] and box[2] <= bar.right
                 self.assertTrue(is_own or is_date, (box, bar))
 
@@ -294,6 +296,45 @@ class Read(Pictures):
                 inside = [box for box in names if bar.left <= box[0] and box[2] <= bar.right and bar.top <= box[1] and box[3] <= bar.bottom]
                 ends = [x for y, *xs in picture.leaders if bar.top < y < bar.bottom for x in xs]
                 self.assertTrue(inside or any(abs(x - side) < 0.1 for x in ends for side in (bar.left, bar.right)), bar)
+
+    def test_labels_of_different_texts_differ(self) -> None:
+        texts = [f"{verb} a restructuring of the {part} division" for verb in ("announced", "denied") for part in ("European", "Asian")]
+        texts += ["Donaudampfschifffahrtsgesellschaftskapit\u00e4n", "Donaudampfschifffahrtsgesellschaftskapit\u00e4nin"]
+        links = "".join(
+            f'<TLINK eventInstanceID="i{n}" relatedToEventInstance="i{n + 1}" relType="BEFORE"/>' for n in range(len(texts) - 1)
+        )
+        tags = "".join(
+            f'<EVENT eid="e{n}" class="STATE">{text}</EVENT><MAKEINSTANCE eiid="i{n}" eventID="e{n}"/>' for n, text in enumerate(texts)
+        )
+        for form in self.FORMS:
+            picture = Picture.read(self.drawn(f"<TimeML>{tags}{links}</TimeML>", form))
+            bottom = max(bar.bottom for bar in picture.bars)
+            labels = [text for _, y, _, _, text in picture.texts if y < bottom]
+            self.assertEqual(len({*labels}), len(texts), (form, labels))
+            for label, begin in itertools.product(labels, ("announced a", "denied a")):
+                self.assertFalse(label.rstrip("\u2026") in begin, (form, label))
+
+    def test_a_label_is_cut_only_for_lack_of_room(self) -> None:
+        text = "announced a restructuring of its whole division"
+        tag = f'<EVENT eid="e" class="STATE">{text}</EVENT><MAKEINSTANCE eiid="i" eventID="e"/>'
+        tag += '<TIMEX3 tid="t" type="DATE" value="1998-01-08"/>'
+        other = '<EVENT eid="f" class="STATE">fell</EVENT><MAKEINSTANCE eiid="j" eventID="f"/>'
+        ends = "".join(
+            f'<TLINK eventInstanceID="{one}" relatedToTime="t" relType="{how}"/>' for one, how in (("i", "BEFORE"), ("j", "AFTER"))
+        )
+        begun = '<TLINK eventInstanceID="i" relatedToTime="t" relType="BEGINS"/>'
+        for content in (tag + other + ends, tag + other + begun):
+            picture = Picture.read(self.drawn(f"<TimeML>{content}</TimeML>", "174mm"))
+            self.assertIn(text, [words for *_, words in picture.texts])
+
+    def test_letters_from_right_to_left_keep_their_direction(self) -> None:
+        text = "\u05d4\u05d5\u05d3\u05d9\u05e2 (\u05de\u05d9\u05d3)"
+        content = f'<TimeML><EVENT eid="e" class="STATE">{text}</EVENT><MAKEINSTANCE eiid="i" eventID="e"/>'
+        content += '<EVENT eid="f" class="STATE">fell</EVENT><MAKEINSTANCE eiid="j" eventID="f"/>'
+        content += '<TLINK eventInstanceID="i" relatedToEventInstance="j" relType="BEFORE"/></TimeML>'
+        root = ElementTree.fromstring(self.drawn(content, "84mm").encode())
+        directions = {one.text: one.get("unicode-bidi") for one in root.iter(SVG + "text") if one.text in (text, "fell")}
+        self.assertEqual(directions, {text: "plaintext", "fell": None})
 
     def test_how_many_events_a_page_has_room_for(self) -> None:
         for events, dates, form, words, most in (

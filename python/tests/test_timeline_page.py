@@ -148,6 +148,18 @@ class InABrowser(PageTest):
                 self.assertLessEqual(browser.value("document.querySelector('main').scrollWidth"), width)
                 self.assertLessEqual(browser.value("document.documentElement.scrollWidth"), width)
 
+    def test_little_is_above_and_below_the_picture(self) -> None:
+        lines = (
+            "(one) => new Set([...document.querySelectorAll(one)].map((part) => Math.round(part.getBoundingClientRect().bottom / 9))).size"
+        )
+        columns = "new Set([...document.querySelector('#links p').getClientRects()].map((part) => part.left)).size"
+        with opened() as browser:
+            browser.open(self.made(mended()))
+            for width in (320, 400, 1280):
+                resized(browser, width)
+                self.assertEqual(browser.value(f"({lines})('#search, #order')"), 1, width)
+                self.assertEqual(browser.value(columns), 1, width)
+
     def test_links_are_drawn_in_the_layout_that_is_shown(self) -> None:
         with opened() as browser:
             browser.open(self.made(mended()))

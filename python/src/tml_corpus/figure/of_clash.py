@@ -73,7 +73,7 @@ def along(centre: Point, point: Point, length: float) -> Point:
 def named(text: str, centre: Point, point: Point, width: float) -> Text:
     """The words of a point outside of its ring."""
     x, y = point
-    if abs(x - centre[0]) < 12:
+    if abs(x - centre[0]) < 1:
         return Text(x, y - 6 if y < centre[1] else y + 10.5, fitted(text, width - 2 * EDGE, LABEL), LABEL, "middle", halo=True)
     away, free = (6, width - x) if x > centre[0] else (-6, x)
     return Text(x + away, y + 2.3, fitted(text, free - EDGE - 6, LABEL), LABEL, "start" if away > 0 else "end", halo=True)

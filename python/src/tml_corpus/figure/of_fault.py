@@ -20,7 +20,7 @@ def figure_of(title: str, document: bytes, fault: PlacedFault, width: float) -> 
     figure = Figure(width, f"Fault of {plain(title)}")
     y = EDGE + LABEL + PAD
     put_source(figure, *parts_of(document, fault.mark), y)
-    figure.said = f"Line {fault.place.line}, column {fault.place.column}: {fault.fault.name}: {plain(fault.text)}"
+    figure.said = f"Line {fault.mark.start.line}, column {fault.mark.start.column}: {fault.fault.name}: {plain(fault.text)}"
     figure.height = figure.write(EDGE, y + PAD + 2 * LABEL + EDGE, figure.said)
     return figure
 

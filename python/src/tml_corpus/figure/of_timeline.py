@@ -17,11 +17,11 @@ from itertools import accumulate, pairwise
 
 from ..timeline.extents import Extent, Positions
 from ..timeline.known import Known, Order
-from ..timeline.lettering import fitted, measured, plain
+from ..timeline.lettering import fitted, is_turned, measured, plain, told_apart
 from ..timeline.rows import KINDS, NO_INTERVAL, Row, Timeline
 from ..timeline.sentences import named, order_said, place_called, said_of
 from .dates import Dated, dated, name_of
-from .layout import packed, spread
+from .layout import Stretch, packed, spread
 from .shapes import BLACK, EDGE, GREY, LABEL, SKIP, SMALL, Box, Figure, Line, Shape, Text
 
 PITCH, CLOSE = 15.0, 10.5
@@ -151,22 +151,43 @@ def put_places(drawing: Drawing, every: dict[int, Row], top: float, bottom: floa
 
 def put_bars(drawing: Drawing, top: float, one_each: bool) -> float:
     """The bars in lanes below a height, each with its label in it, or next to it. Answers where they end."""
-    known = drawing.timeline.known
-    before = ended_before([number for number in drawing.rows if number not in drawing.bars], known.orders)
+    before = ended_before([number for number in drawing.rows if number not in drawing.bars], drawing.timeline.known.orders)
     numbers = list(before) if one_each else in_order(before)
-    extents, labels = [], []
-    for number in numbers:
-        outer = drawing.extents[number].outer
-        text, begin = placed_label(drawing.extents[number], plain(drawing.rows[number].text) or drawing.rows[number].name, drawing.width)
-        labels.append((text, begin))
-        extents.append((min(outer[0], begin) - 1, max(outer[1], begin + measured(text, LABEL)) + 1))
+    extents, every = [drawing.extents[number] for number in numbers], (EDGE, drawing.width - EDGE)
+    texts = [plain(drawing.rows[number].text) or drawing.rows[number].name for number in numbers]
+    others = neighbours(texts)
+    labels = [placed_label(*one, others, every, drawing.width / 3) for one in zip(extents, texts, strict=True)]
+    reaches = list(map(reach, extents, labels))
     places = {number: place for place, number in enumerate(numbers)}
     below = [[places[other] for other in before[number]] for number in numbers]
-    lanes = list(range(len(numbers))) if one_each else packed(extents, below)
+    lanes = list(range(len(numbers))) if one_each else packed(reaches, below)
+    for place in (place for place, text in enumerate(texts) if text != labels[place][0]):
+        free = free_around(reaches[place], [one for one, lane in zip(reaches, lanes, strict=True) if lane == lanes[place]], every)
+        broader = placed_label(extents[place], texts[place], others, free)
+        labels[place] = max(labels[place], broader, key=lambda one: measured(one[0], LABEL))
+        reaches[place] = reach(extents[place], labels[place])
     first = top + 7
-    for number, lane, (text, begin) in zip(numbers, lanes, labels, strict=True):
-        put_bar(drawing, number, first + lane * drawing.pitch, text, begin)
+    for number, lane, label in zip(numbers, lanes, labels, strict=True):
+        put_bar(drawing, number, first + lane * drawing.pitch, *label)
     return first + (max(lanes, default=-1) + 1) * drawing.pitch - drawing.pitch / 3 + 4
+
+
+def neighbours(texts: Sequence[str]) -> dict[str, list[str]]:
+    """Of each text the two others that begin most like it."""
+    row = sorted({*texts})
+    return {text: [*row[max(place - 1, 0) : place], *row[place + 1 : place + 2]] for place, text in enumerate(row)}
+
+
+def reach(extent: Extent, label: tuple[str, float]) -> Stretch:
+    """From where to where a bar and its label have to be alone in a lane."""
+    text, begin = label
+    return min(extent.outer[0], begin) - 1, max(extent.outer[1], begin + measured(text, LABEL)) + 1
+
+
+def free_around(own: Stretch, lane: Sequence[Stretch], every: Stretch) -> Stretch:
+    """From where to where nothing but one bar is in its lane."""
+    left = max([every[0], *(end + 1 for _, end in lane if end < own[0] + 0.02)])
+    return left, min([every[1], *(begin - 1 for begin, _ in lane if begin > own[1] - 0.02)])
 
 
 def ended_before(numbers: Sequence[int], orders: Collection[Order]) -> dict[int, set[int]]:
@@ -192,18 +213,21 @@ def in_order(before: Mapping[int, set[int]]) -> list[int]:
     return found
 
 
-def placed_label(extent: Extent, label: str, width: float) -> tuple[str, float]:
-    """A label and where it begins: in the broadest part of the bar, or in the whole, or next to it, or at the edge of the picture."""
+def placed_label(extent: Extent, label: str, others: Mapping[str, Sequence[str]], free: Stretch, most: float = 0.0) -> tuple[str, float]:
+    """A label and where it begins: in the broadest part of the bar, or in the whole, or next to it, or at the edge of the picture.
+
+    It is as long as the bar, or as some length, or else as what is free next to the bar.
+    """
     begin, end = extent.outer
-    text = fitted(label, max(end - begin - 2, width / 3), LABEL)
+    text = told_apart(label, others[label], max(end - begin - 2, most or max(free[1] - end, begin - free[0]) - 2), LABEL)
     broad = measured(text, LABEL)
     cuts = sorted({begin, end, *(extent.solid or ()), *(x for x in (extent.begun, extent.not_ended) if x is not None)})
     for left, right in (max((right - left, left, right) for left, right in pairwise(cuts))[1:], (begin, end)):
         if broad + 3 <= right - left:
             return text, (left + right - broad) / 2
-    if end + 2 + broad <= width - EDGE:
+    if end + 2 + broad <= free[1]:
         return text, end + 2
-    return text, begin - 2 - broad if begin - 2 - broad >= EDGE else width - EDGE - broad
+    return text, begin - 2 - broad if begin - 2 - broad >= free[0] else free[1] - broad
 
 
 def put_bar(drawing: Drawing, number: int, y: float, text: str, begin: float) -> None:
@@ -227,7 +251,7 @@ def put_bar(drawing: Drawing, number: int, y: float, text: str, begin: float) ->
     drawing.behind += parts
     is_inside = extent.solid is not None and extent.solid[0] <= begin and begin + measured(text, LABEL) <= extent.solid[1]
     halo = not (is_inside and filling == "event")
-    drawing.front.append(Text(begin, y + high / 2 + 0.36 * LABEL, text, LABEL, slanted=bool(row.unasserted), halo=halo))
+    drawing.front.append(Text(begin, y + high / 2 + 0.36 * LABEL, text, LABEL, slanted=bool(row.unasserted), halo=halo, own=True))
 
 
 def line_of(drawing: Drawing, order: Order) -> list[Shape]:
@@ -284,7 +308,10 @@ def put_list(figure: Figure, drawing: Drawing, every: Mapping[int, Row], y: floa
 def of_listed(known: Known, every: Mapping[int, Row]) -> dict[int, list[str]]:
     """Of each listed interval its orders in words; one of two that are listed is said of the first."""
     found: dict[int, list[str]] = {number: [] for number in known.listed}
-    every = {number: replace(row, text=fitted(plain(row.text), BRIEF, LABEL)) for number, row in every.items()}
+    # One that goes from right to left is whole, since the sign of a cut would be at its beginning.
+    every = {
+        number: row if is_turned(row.text) else replace(row, text=fitted(plain(row.text), BRIEF, LABEL)) for number, row in every.items()
+    }
     for order in known.orders:
         ends = found.keys() & {order.first // 2, order.second // 2}
         if ends:

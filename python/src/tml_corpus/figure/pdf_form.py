@@ -6,7 +6,6 @@ import importlib
 import os
 import shutil
 import subprocess
-import unicodedata
 from contextlib import suppress
 from pathlib import Path
 from typing import Any
@@ -17,6 +16,7 @@ from tml.running import RUNNING, end, ended
 from ..asking.program import CannotRun
 from ..files.replacing import replace_file
 from ..files.writing import folder_for_a_while, unbroken
+from ..timeline.lettering import is_turned
 from .shapes import Figure, Text
 from .svg_form import POINTS_OF_MILLIMETRE, drawing, svg
 
@@ -30,19 +30,13 @@ MISSING = "a PDF is made by the library cairosvg or the program chromium, and ne
 def pdf(figure: Figure) -> bytes:
     """The picture as a file. The library puts letters from right to left in a wrong order, so if there are such a browser comes first."""
     browser = next((found for name in BROWSERS if (found := shutil.which(name))), None)
-    if browser is None or not is_turned(figure):
+    if browser is None or not any(isinstance(shape, Text) and is_turned(shape.text) for shape in figure.shapes):
         with suppress(ImportError):
             cairosvg: Any = importlib.import_module("cairosvg")
             return bytes(cairosvg.svg2pdf(bytestring=svg(figure).encode("utf-8")))
     if browser is None:
         raise CannotRun(MISSING)
     return by_browser(figure, browser)
-
-
-def is_turned(figure: Figure) -> bool:
-    """Whether some letters of a picture go from right to left."""
-    letters = (letter for shape in figure.shapes if isinstance(shape, Text) for letter in shape.text)
-    return any(unicodedata.bidirectional(letter) in ("R", "AL") for letter in letters)
 
 
 def by_browser(figure: Figure, browser: str) -> bytes:

@@ -96,6 +96,9 @@ class Text:
     slanted: bool = False
     colour: str = BLACK
     halo: bool = False
+    own: bool = False
+    """Whether it goes in the direction of its first letter, be it from right to left."""
+
     name: str = ""
     """The identifier of the interval that is listed here."""
 

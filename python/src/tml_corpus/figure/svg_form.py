@@ -4,6 +4,7 @@ from __future__ import annotations
 
 from tml.markup import Markup, element, lined, svg_file
 
+from ..timeline.lettering import is_turned
 from .shapes import BLACK, GREY, Box, Figure, Line, Shape, Text
 
 FONT = "Helvetica,Arial,'Liberation Sans',sans-serif"
@@ -47,6 +48,7 @@ def drawn_text(text: Text) -> Markup:
     letters |= {"font_size": two(text.size), "font_weight": "bold" if text.bold else None}
     letters |= {"class_": "listed" if text.name else None, "data_interval": text.name or None}
     letters |= {"font_style": "italic" if text.slanted else None}
+    letters |= {"unicode_bidi": "plaintext" if text.own and is_turned(text.text) else None}
     words = element("text", text.text, **letters, fill=text.colour)
     if not text.halo:
         return words

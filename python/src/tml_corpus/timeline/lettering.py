@@ -4,8 +4,10 @@ from __future__ import annotations
 
 import unicodedata
 from bisect import bisect_right
+from collections.abc import Sequence
 from functools import lru_cache
 from itertools import accumulate
+from os.path import commonprefix
 
 from tml.markup import JOINERS, printed
 
@@ -30,6 +32,11 @@ def plain(text: str) -> str:
     return line if line.isprintable() else "".join(map(printed, line))
 
 
+def is_turned(text: str) -> bool:
+    """Whether some letters of a text go from right to left."""
+    return any(unicodedata.bidirectional(letter) in ("R", "AL") for letter in text)
+
+
 def measured(text: str, size: float) -> float:
     """About as much room as a text takes in a wide font without serifs, so that it takes no more in others."""
     return size * sum(map(share, text))
@@ -52,6 +59,17 @@ def fitted(text: str, room: float, size: float) -> str:
     if measured(text, size) <= room:
         return text
     return text[: fitting(text, room / size - share("\u2026"))].rstrip(" " + JOINERS) + "\u2026"
+
+
+def told_apart(text: str, others: Sequence[str], room: float, size: float) -> str:
+    """The same, cut in its middle if it would begin as one of some others does, so that the word in which they differ is there."""
+    cut = fitted(text, room, size)
+    same = max((len(commonprefix((text, other))) for other in others), default=0)
+    if cut == text or same < len(cut) - 1:
+        return cut
+    start = max(text.rfind(" ", 0, same) + 1, same - 8)
+    rest = fitted(text[start:], 0.6 * room, size)
+    return fitted(text[:start], room - measured(rest, size), size) + rest
 
 
 def fitting(text: str, shares: float) -> int:

@@ -30,10 +30,10 @@ main{flex:1;overflow:auto;min-height:0;padding:0 16px}.picture{overflow:visible}
 h1{font-size:1.3em;overflow-wrap:anywhere}
 #links{max-height:32vh;overflow:auto;padding:8px 16px;border-top:2px solid var(--strong);columns:28em;font-size:13px}
 #links div{break-inside:avoid;padding-left:1.5em;text-indent:-1.5em;overflow-wrap:anywhere}#links div:first-child{font-weight:bold}
-#links .open{color:var(--strong)}
+#links p{column-span:all;margin:0}#links .open{color:var(--strong)}
 #tools{padding:6px 16px;border-bottom:1px solid var(--line)}#tools[hidden]{display:none}
 #tools input,#tools button{font:inherit;margin-right:12px}#tools button[aria-pressed=true]{background:var(--strong);color:var(--paper)}
-.row{cursor:pointer}.row.dim{display:none}g.dim,text.dim{opacity:.15}
+#tools input{width:min(13em,24vw)}.row{cursor:pointer}.row.dim{display:none}g.dim,text.dim{opacity:.15}
 main:focus-visible,#links:focus-visible{outline:3px solid var(--strong);outline-offset:-3px}
 .link{fill:none;stroke:var(--drawn-link);stroke-width:.8}.relation{font-size:6px;fill:var(--drawn-link);stroke:#fff;stroke-width:1.5;paint-order:stroke}
 #arrow{fill:var(--drawn-link)}
@@ -86,7 +86,7 @@ def page(narrow: Figure, wide: Figure, timeline: Timeline | None = None) -> str:
         return page_file(title, POLICY, [raw("style", STYLE)], element("main", "\n", lined(*content), aria_label=title, tabindex="0"))
     rows = html_form.in_words(timeline, "div", lambda place, row: {"id": f"row{place}"})
     main = element("main", "\n", lined(*content, rows, element("noscript", WITHOUT)), aria_label=title, tabindex="0")
-    panel = element("div", POINT, id="links", role="status", tabindex="0", aria_label="Links of a row")
+    panel = element("div", element("p", POINT), id="links", role="status", tabindex="0", aria_label="Links of a row")
     digest = base64.b64encode(hashlib.sha256(SCRIPT.encode()).digest()).decode()
     policy = f"{POLICY}; script-src 'sha256-{digest}'"
     return page_file(title, policy, [raw("style", STYLE)], TOOLS, main, panel, *values(timeline), raw("script", SCRIPT))
