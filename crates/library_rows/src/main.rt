@@ -26,8 +26,12 @@ use std::io::Write;
 fn main(rt: HostRuntime) -> io::Result<()> {
     let text = io::read_to_string(rt.alloc(), rt.reader())?;
     let mut script = Script::new(rt.alloc());
-    for line in text.as_str().lines() {
-        script.take(&rt, line);
-    }
+    follow(&rt, &mut script, text.as_str());
     io::writer(&rt).write_all(script.page.whole()?)
+}
+
+fn follow(rt: &HostRuntime, script: &mut Script, text: &str) {
+    for line in text.lines() {
+        script.take(rt, line);
+    }
 }

@@ -118,15 +118,7 @@ impl Script {
                 orders::answer(&mut self.page, self.alloc, table, word, words)
             }
             "walk" | "walks" | "step" | "reduce" | "possible" => {
-                let net = self.net.net(self.alloc)?;
-                walking::answer(
-                    &mut self.page,
-                    self.alloc,
-                    &net,
-                    &self.net.keep,
-                    word,
-                    words,
-                )
+                walking::answer(&mut self.page, self.alloc, &self.net, word, words)
             }
             "files" => {
                 readers::print_files(&mut self.page, rt, words);
@@ -141,7 +133,7 @@ impl Script {
         match word {
             "table" => orders::table_of(self.alloc, words.number()?),
             "copy" => orders::copy_of(self.alloc, self.table.as_ref()?),
-            _ => walking::closure_of(self.alloc, &self.net.net(self.alloc)?),
+            _ => walking::closure_of(self.alloc, &self.net),
         }
     }
 
@@ -169,7 +161,7 @@ impl Script {
         match word {
             "again" | "one" | "claims" | "bundle" => texts::answer(page, alloc, text, word),
             "join" => texts::print_joined(page, alloc, text, text_of(texts, words.word())?),
-            "verify" | "verify-all" => verdicts::answer(page, alloc, &net.net(alloc)?, text, word),
+            "verify" | "verify-all" => return verdicts::answer(page, alloc, net, text, word),
             _ => return answer_of_markup(page, alloc, text, word, words),
         }
         Some(())

@@ -2,6 +2,7 @@
 ghost use Rattle.net_core.specs.Limits.{max_evidence};
 ghost use Rattle.std.specs.Prelude.{◌≤◌, length};
 
+use crate::nets::Drawn;
 use crate::page::Page;
 use crate::texts::print_unread;
 use evidence_check::{Claim, Reason, Refused, verify, verify_all};
@@ -10,13 +11,15 @@ use net_core::Net;
 use std::alloc::Global;
 
 /// Prints the answer to a line about a net and the evidence of a text.
-pub fn answer(page: &mut Page, alloc: Global, net: &Net, text: &[u8], word: &str)
+pub fn answer(page: &mut Page, alloc: Global, drawn: &Drawn, text: &[u8], word: &str) -> Option<()>
     requires { length text.now ≤ max_evidence }
 {
+    let net = drawn.net(alloc)?;
     match word {
-        "verify" => print_verdict(page, alloc, net, text),
-        _ => print_verdicts(page, alloc, net, text),
+        "verify" => print_verdict(page, alloc, &net, text),
+        _ => print_verdicts(page, alloc, &net, text),
     }
+    Some(())
 }
 
 /// Prints what the evidence of a text of version 1 shows of a net, or why it is refused.

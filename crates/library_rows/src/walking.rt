@@ -3,6 +3,7 @@ ghost use Rattle.net_core.specs.Nets.{points};
 ghost use Rattle.std.specs.Prelude.{◌≡◌, ◌<◌, length};
 
 use crate::intervals::print_atom;
+use crate::nets::Drawn;
 use crate::page::Page;
 use crate::possible;
 use crate::words::Words;
@@ -15,6 +16,17 @@ use walks::walk;
 
 /// Prints the answer to a line about a net, of which walks go over some links.
 pub fn answer(
+    page: &mut Page,
+    alloc: Global,
+    drawn: &Drawn,
+    word: &str,
+    words: Words<'_>,
+) -> Option<()> {
+    let net = drawn.net(alloc)?;
+    answer_of_net(page, alloc, &net, &drawn.keep, word, words)
+}
+
+fn answer_of_net(
     page: &mut Page,
     alloc: Global,
     net: &Net,
@@ -37,8 +49,9 @@ pub fn answer(
 }
 
 /// The closure of a net that some timeline fits.
-pub fn closure_of(alloc: Global, net: &Net) -> Option<Closed> {
-    close(alloc, net).ok()
+pub fn closure_of(alloc: Global, drawn: &Drawn) -> Option<Closed> {
+    let net = drawn.net(alloc)?;
+    close(alloc, &net).ok()
 }
 
 /// Prints the walks between each two points of a net.
