@@ -27,7 +27,7 @@ use order_closure::Closed;
 use runs::{Answer, Finding};
 use std::alloc::{AllocError, Global};
 use timeline::least;
-use tml_accept::accept;
+use tml_accept::{Refusal, accept};
 use tml_refs::Document;
 
 /// The number of a drill, from 1 to MAX_INTERVALS in decimal, without sign or leading zero.
@@ -70,8 +70,8 @@ pub fn drill_summary(alloc: Global, n: u32) -> Result<Answer, AllocError>
     let doc = drill_text(alloc, n)?;
     let document = match accept(alloc, doc.as_slice()) {
         Ok(document) => document,
-        Err(None) => return Err(AllocError),
-        Err(Some(_)) => unreachable!(),
+        Err(Refusal::Memory) => return Err(AllocError),
+        Err(Refusal::Fault { .. }) => unreachable!(),
     };
     of_document(alloc, n, doc.as_slice().len(), &document)
 }
