@@ -7,11 +7,11 @@ For one crate after another, the edits are put into the folder must-fail of a co
 at a time, over one check of the crate. First run the gate, so that the crates themselves are proved. What a crate's edits came to is kept
 on this machine: after Ctrl-C, only the crate that was being tried is tried again.
 
-Each edit gets a line: its verdict, its crate and name, the seconds of processor time, and the clause or the goal by which it was refused.
-Time is `-` if an earlier run tried the same edit of the same files.
+Each edit gets a line: its verdict, its crate and name, the seconds of processor time, and what the prover said first. The line below it is
+the one at which the prover refused it: the clause, or a step of its proof. Time is `-` if an earlier run tried the same edit of the same files.
 
-Status 0 says that each edit was refused by a proof; 1 that one was not, does not apply, or was not tried, with a list at the end; and 2 that
-the arguments are of no known form.
+Status 0 says that each edit was refused by a proof; 1 that one was not, does not apply, or was not tried, with a list at the end; 2 that the
+arguments are of no known form; and 130 that the tool was stopped.
 
 Example: nice tools/wrong-bodies named timex_value
 """
@@ -55,6 +55,8 @@ class Verdict(Enum):
     UNFIT = "BAD EDIT"
     UNTRIED = "NOT TRIED"
 
+
+PLACE = re.compile(r"(?:note: )?(?:\./)?((?:src|specs|proofs)/\S+?):(\d+):\d+: ")
 
 SAID = (
     (r"refused, as it must be \(only because a proof file names .*?\): (.*)", Verdict.NAME),
@@ -188,6 +190,16 @@ def checked_edit(process: int, texts: Mapping[Edit, Mapping[str, str]]) -> Edit 
     return None
 
 
+def clause(tree: Path, edit: Edit, said: str) -> str:
+    """The line of the crate with the edit at which the prover refused it: a clause, if the place is in the code."""
+    place = PLACE.match(said)
+    if place is None:
+        return ""
+    path, number = place[1], int(place[2])
+    text = edit.changed(tree).get(path) or (tree / "crates" / edit.crate / path).read_text(encoding="utf-8")
+    return text.split("\n")[number - 1].strip()
+
+
 def results(said: str, edits: Iterable[Edit]) -> Iterator[Result]:
     """What each edit came to, by what `rt ci` said of the crate."""
     for edit in edits:
@@ -232,6 +244,8 @@ def main(arguments: Sequence[str]) -> int:
                 found.append(result)
                 seconds = f"{times[result.edit]:.0f} s" if result.edit in times else "-"
                 print(f"{result.verdict.value}: {result.edit}: {seconds}: {result.said}", flush=True)
+                if result.verdict is Verdict.REFUSED and (line := clause(TOP, result.edit, result.said)):
+                    print(f"    {line}", flush=True)
     except KeyboardInterrupt:
         print("wrong-bodies: stopped", file=sys.stderr)
         return 130
