@@ -4,14 +4,15 @@ A wrong body is a file crates/CRATE/wrong/NAME.edit: a line `file: PATH` below t
 Each old text is in that file once. The name of the file says what is wrong.
 
 For one crate after another, the edits are put into the folder must-fail of a copy of the crates, and `rt ci CRATE` tries them there, one
-at a time, over one check of the crate. First run the gate, so that the crates themselves are proved. What a crate's edits came to is kept
-on this machine: after Ctrl-C, only the crate that was being tried is tried again.
+at a time, over one check of the crate. Run the gate first, so that the crates themselves are proved. What the edits of a crate came to is
+kept on this machine: after Ctrl-C, only those of the crate that was being tried are tried again.
 
 Each edit gets a line: its verdict, its crate and name, the seconds of processor time, and what the prover said first. The line below it is
-the one at which the prover refused it: the clause, or a step of its proof. Time is `-` if an earlier run tried the same edit of the same files.
+the one at which the prover refused it: the clause, or a step of its proof. Time is `-` if an earlier run tried the same edit of the same
+files.
 
-Status 0 says that each edit was refused by a proof; 1 that one was not, does not apply, or was not tried, with a list at the end; 2 that the
-arguments are of no known form; and 130 that the tool was stopped.
+Status 0 says that a proof refused each edit; 1 that one was not refused, does not apply, or was not tried, with a list at the end; 2 that
+the arguments are of no known form; and 130 that the tool was stopped.
 
 Example: nice tools/wrong-bodies named timex_value
 """
