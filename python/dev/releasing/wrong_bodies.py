@@ -32,11 +32,11 @@ from collections.abc import Iterable, Iterator, Mapping, Sequence
 from contextlib import suppress
 from dataclasses import dataclass
 from enum import Enum
+from itertools import takewhile
 from pathlib import Path
 from threading import Event, Thread
 
-from building.compiling import TOP
-from building.crates import listed
+from building.crates import TOP, listed
 from building.gate_times import check_of, is_below, processes
 from tml_corpus import VERSION
 
@@ -94,21 +94,25 @@ class Edit:
             value = value.removeprefix(" ")
             if kind == "file":
                 path = value
-                source = tree / "crates" / self.crate / path
-                if not source.is_file():
-                    raise Unfit(f"there is no file {path}")
-                texts.setdefault(path, source.read_text(encoding="utf-8"))
             elif kind == "old":
                 old = value
             elif kind == "new" and path and old and old != value:
-                if texts[path].count(old) != 1:
-                    raise Unfit(f"an old text is in {path} {texts[path].count(old)} times, and not once")
-                texts[path], old = texts[path].replace(old, value), ""
+                text = texts.get(path) or self.source(tree, path)
+                if text.count(old) != 1:
+                    raise Unfit(f"an old text is in {path} {text.count(old)} times, and not once")
+                texts[path], old = text.replace(old, value), ""
             else:
                 raise Unfit(f"a line out of place: {line}")
-        if not texts or old:
+        if old or not texts:
             raise Unfit("it changes nothing")
         return texts
+
+    def source(self, tree: Path, path: str) -> str:
+        """The text of a file of the crate as it is."""
+        try:
+            return (tree / "crates" / self.crate / path).read_text(encoding="utf-8")
+        except OSError as problem:
+            raise Unfit(f"there is no file {path}") from problem
 
 
 @dataclass(frozen=True)
@@ -173,7 +177,7 @@ def watch(top: int, texts: Mapping[Edit, Mapping[str, str]], times: defaultdict[
         for process in present.values():
             key = process.number, process.begun
             if key not in checked and is_below(process, top, present) and check_of(process):
-                checked[key] = checked_edit(process.number, texts)
+                checked[key] = checked_edit(Path("/proc", str(process.number), "cwd"), texts)
             if key in checked:
                 used[key] = process.processor
     for key, edit in checked.items():
@@ -181,10 +185,9 @@ def watch(top: int, texts: Mapping[Edit, Mapping[str, str]], times: defaultdict[
             times[edit] += used[key]
 
 
-def checked_edit(process: int, texts: Mapping[Edit, Mapping[str, str]]) -> Edit | None:
-    """The edit that a prover checks, by the files in its folder."""
+def checked_edit(folder: Path, texts: Mapping[Edit, Mapping[str, str]]) -> Edit | None:
+    """The edit that a prover checks in this folder, by its files."""
     with suppress(OSError):
-        folder = Path(f"/proc/{process}/cwd").resolve()
         for edit, files in texts.items():
             if all((folder / path).read_text(encoding="utf-8") == text for path, text in files.items()):
                 return edit
@@ -192,13 +195,17 @@ def checked_edit(process: int, texts: Mapping[Edit, Mapping[str, str]]) -> Edit 
 
 
 def clause(tree: Path, edit: Edit, said: str) -> str:
-    """The line of the crate with the edit at which the prover refused it: a clause, if the place is in the code."""
+    """The clause by which an edit was refused, or else the line at which it was."""
     place = PLACE.match(said)
     if place is None:
         return ""
     path, number = place[1], int(place[2])
-    text = edit.changed(tree).get(path) or (tree / "crates" / edit.crate / path).read_text(encoding="utf-8")
-    return text.split("\n")[number - 1].strip()
+    lines = (edit.changed(tree).get(path) or edit.source(tree, path)).split("\n")
+    named = re.search(r"clause-(\w+)", said)
+    wanted = re.compile(rf"\s*ensures {named[1]} .*" if named else r"\s*ensures .*")
+    first = next((at for at in range(number - 1, -1, -1) if re.match(r"\s*(pub(\(crate\))? )?fn ", lines[at])), number)
+    contract = takewhile(lambda line: line.strip() != "{", lines[first:])
+    return next(filter(wanted.fullmatch, contract), lines[number - 1]).strip()
 
 
 def results(said: str, edits: Iterable[Edit]) -> Iterator[Result]:
