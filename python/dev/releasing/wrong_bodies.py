@@ -142,7 +142,7 @@ def copied(tree: Path, room: Path, edits: Iterable[Edit]) -> Path:
     return copy
 
 
-def tried(copy: Path, edits: Sequence[Edit], times: defaultdict[Edit, float]) -> str:
+def tried(copy: Path, edits: Sequence[Edit], times: defaultdict[Edit | None, float]) -> str:
     """What `rt ci` says of a crate with these edits. The processor time of each is added to the times."""
     texts = {edit: edit.changed(copy) for edit in edits}
     environment = {**os.environ, "RT_JOBS": "1", "TMPDIR": str(copy.parent)}
@@ -168,8 +168,8 @@ def tried(copy: Path, edits: Sequence[Edit], times: defaultdict[Edit, float]) ->
     return said
 
 
-def watch(top: int, texts: Mapping[Edit, Mapping[str, str]], times: defaultdict[Edit, float], ended: Event) -> None:
-    """Adds the processor time of the checks below a process to the times of their edits, until it has ended."""
+def watch(top: int, texts: Mapping[Edit, Mapping[str, str]], times: defaultdict[Edit | None, float], ended: Event) -> None:
+    """Adds the processor time of the checks below a process to the times of their edits, or of no edit, until it has ended."""
     checked: dict[tuple[int, int], Edit | None] = {}
     used: dict[tuple[int, int], float] = {}
     while not ended.wait(INTERVAL):
@@ -181,8 +181,7 @@ def watch(top: int, texts: Mapping[Edit, Mapping[str, str]], times: defaultdict[
             if key in checked:
                 used[key] = process.processor
     for key, edit in checked.items():
-        if edit is not None:
-            times[edit] += used[key]
+        times[edit] += used[key]
 
 
 def checked_edit(folder: Path, texts: Mapping[Edit, Mapping[str, str]]) -> Edit | None:
@@ -217,7 +216,7 @@ def results(said: str, edits: Iterable[Edit]) -> Iterator[Result]:
         yield next(Result(edit, verdict, match[1] or "") for words, verdict in SAID if (match := re.fullmatch(words, found, re.DOTALL)))
 
 
-def results_of_crate(tree: Path, edits: Iterable[Edit], times: defaultdict[Edit, float]) -> Iterator[Result]:
+def results_of_crate(tree: Path, edits: Iterable[Edit], times: defaultdict[Edit | None, float]) -> Iterator[Result]:
     """What each edit of a crate came to. Those that do not apply are not tried."""
     fit = []
     for edit in edits:
@@ -244,7 +243,7 @@ def main(arguments: Sequence[str]) -> int:
     if shutil.which("rt") is None:
         parser.error("there is no rt")
     signal.signal(signal.SIGTERM, signal.default_int_handler)
-    times: defaultdict[Edit, float] = defaultdict(float)
+    times: defaultdict[Edit | None, float] = defaultdict(float)
     found: list[Result] = []
     try:
         for crate in options.crates or known:
