@@ -14,7 +14,7 @@ from building.crates import TOP, listed
 from releasing import wrong_bodies
 from releasing.wrong_bodies import Edit, Unfit, Verdict, checked_edit, edits_of, results
 
-SOURCE = "fn one() -> u8\n    ensures { result ≡ 1 }\n{\n    1\n}\n"
+SOURCE = "#[inline]\nfn one() -> u8\n    ensures { result ≡ 1 }\n{\n    1\n}\n"
 RIGHT = "file: src/lib.rt\nold:     1\nnew:     2\n"
 NAMES = ("accepted", "gone", "limit", "refused", "unread", "unsure")
 SAID = """\
@@ -22,7 +22,7 @@ rt: base is kept: an earlier run on this machine proved the same files over the 
 rt: must-fail base/accepted.edit: NOT REFUSED: the crate is still proved with this edit (one that means the same cannot be refused)
 rt: must-fail base/gone.edit: refused, as it must be (only because a proof file names what the edit took away, so this says little): gone
 rt: must-fail base/limit.edit: refused, as it must be (only by a limit of the prover, which gave no verdict): src/lib.rt:2:5: error: steps
-rt: must-fail base/refused.edit: refused, as it must be: note: src/lib.rt:2:5: it is not proved that what the function ensures holds
+rt: must-fail base/refused.edit: refused, as it must be: note: src/lib.rt:1:1: it is not proved that what the function ensures holds
 rt: must-fail base/unread.edit: BAD EDIT: it did not reach the prover; the first lines of what it said:
 error[E0425]: no such name
 rt: must-fail base/unsure.edit: NOT TRIED: its check was killed
@@ -106,7 +106,7 @@ class WrongBodies(unittest.TestCase):
         self.add("refused")
         status, out = self.run_tool(f"cat <<'END'\n{SAID}END")
         self.assertEqual(status, 0, out)
-        self.assertIn("refused: base/refused: -: note: src/lib.rt:2:5: ", out)
+        self.assertIn("refused: base/refused: -: note: src/lib.rt:1:1: ", out)
         self.assertIn("\n    ensures { result ≡ 1 }\n1 of 1 wrong bodies were refused", out)
 
     def test_lists_what_is_not_refused(self) -> None:

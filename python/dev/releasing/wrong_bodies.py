@@ -202,7 +202,10 @@ def clause(tree: Path, edit: Edit, said: str) -> str:
     lines = (edit.changed(tree).get(path) or edit.source(tree, path)).split("\n")
     named = re.search(r"clause-(\w+)", said)
     wanted = re.compile(rf"\s*ensures {named[1]} .*" if named else r"\s*ensures .*")
-    first = next((at for at in range(number - 1, -1, -1) if re.match(r"\s*(pub(\(crate\))? )?fn ", lines[at])), number)
+    at = number - 1
+    while lines[at].lstrip().startswith("#["):
+        at += 1
+    first = next((above for above in range(at, -1, -1) if re.match(r"\s*(pub(\(crate\))? )?fn ", lines[above])), at)
     contract = takewhile(lambda line: line.strip() != "{", lines[first:])
     return next(filter(wanted.fullmatch, contract), lines[number - 1]).strip()
 
