@@ -94,10 +94,10 @@ def files_named(marked: list[str], crates: list[Path]) -> set[Path]:
 
 
 def files_with(mention: str, folders: Iterable[str]) -> set[Path]:
-    """The files of some folders that have a mention; not those that were built."""
+    """The files of some folders that have a mention; not those that were built, nor wrong bodies, which test_wrong_bodies.py names."""
     endings = ("*.rt", "*.antt", "*.edit", "stdin", "*.py", "*.md", "*.1", "*.bash")
-    command = ["grep", "-rlE", "--exclude-dir=out", *(f"--include={ending}" for ending in endings), "-e", mention, *folders]
-    found = subprocess.run(command, cwd=TOP, stdout=subprocess.PIPE, text=True, check=True)
+    options = [*(f"--include={ending}" for ending in endings), "--exclude-dir=out", "--exclude-dir=wrong"]
+    found = subprocess.run(["grep", "-rlE", *options, "-e", mention, *folders], cwd=TOP, stdout=subprocess.PIPE, text=True, check=True)
     return {Path(TOP, line) for line in found.stdout.splitlines()}
 
 
