@@ -1,5 +1,5 @@
 //! The command `score`: how much of a document follows from a key, and how much of the key from the document.
-ghost use Rattle.score_answers.specs.Score.{HasKeyLine, scores_text as text_of_scores};
+ghost use Rattle.score_answers.specs.Score.{HasKeyLine, scores_text};
 ghost use Rattle.std.specs.Prelude.{◌≡◌, codes, IfOk};
 
 use crate::counts::push_of;
@@ -79,7 +79,7 @@ impl NetQuery for Against<'_, '_> {
             &key_net,
             &key_closure,
         )?;
-        Ok(Answer::done(scores_text(alloc, scores)?))
+        scores_answer(alloc, scores)
     }
 }
 
@@ -109,9 +109,10 @@ fn key_clash(alloc: Global) -> Result<Answer, AllocError>
     })
 }
 
-/// The lines of precision and recall.
-fn scores_text(alloc: Global, scores: Scores) -> Result<Vec<u8>, AllocError>
-    ensures { IfOk result (λ text. text.items ≡ text_of_scores scores) }
+/// The answer with the lines of precision and recall.
+fn scores_answer(alloc: Global, scores: Scores) -> Result<Answer, AllocError>
+    ensures finding { IfOk result (λ answer. answer.finding ≡ Finding.Done) }
+    ensures text { IfOk result (λ answer. answer.text.items ≡ scores_text scores) }
 {
     let Scores {
         matched,
@@ -132,5 +133,5 @@ fn scores_text(alloc: Global, scores: Scores) -> Result<Vec<u8>, AllocError>
         u64::from(found),
         u64::from(key_links),
     )?;
-    Ok(text)
+    Ok(Answer::done(text))
 }
