@@ -37,7 +37,7 @@ export class Runner {
 
   #started() {
     const worker = this.#start();
-    worker.onmessage = ({ data }) => this.#take(data);
+    worker.onmessage = ({ data }) => (data.port ? readFor(data) : this.#take(data));
     worker.onerror = ({ message }) => this.#end(new Error(message || "the worker has ended"));
     return worker;
   }
@@ -60,4 +60,9 @@ export class Runner {
     this.#waiting.clear();
     waiting.forEach(({ failed }) => failed(error));
   }
+}
+
+/** Reads a file for a worker that cannot. */
+async function readFor({ file, port }) {
+  port.postMessage(await file.arrayBuffer().catch(() => null));
 }

@@ -71,11 +71,18 @@ async function checked(tml, file) {
 
 /** What a file holds, up to one byte more than so many, or null if it cannot be read. */
 async function contentOf(file, most) {
-  try {
-    return new Uint8Array(await file.slice(0, most + 1).arrayBuffer());
-  } catch {
-    return null;
-  }
+  const part = file.slice(0, most + 1);
+  const content = await part.arrayBuffer().catch(() => readByPage(part));
+  return content && new Uint8Array(content);
+}
+
+/** What the page reads of a file, or null: in WebKit, workers of a page from the disk cannot read any file. */
+function readByPage(file) {
+  const { port1, port2 } = new MessageChannel();
+  return new Promise((done) => {
+    port1.onmessage = ({ data }) => done(data);
+    postMessage({ file, port: port2 }, [port2]);
+  });
 }
 
 /** A verdict as a value. */

@@ -210,7 +210,8 @@ class PageTest(unittest.TestCase):
             if count == 1
             else f"document.querySelectorAll('#verdicts .name').length === {count}"
         )
-        self.until(f"document.querySelector('#checking').hidden && {shown}")
+        summed = f"document.querySelector('#summary').textContent.startsWith('{count} document')"
+        self.until(f"document.querySelector('#checking').hidden && {summed} && {shown}")
 
     def answer(self, command: str, *names: str) -> str:
         """The answer to a query."""
