@@ -15,7 +15,7 @@ import functools
 import http.client
 import json
 import os
-import shutil
+import re
 import signal
 import socket
 import subprocess
@@ -31,6 +31,12 @@ import browser
 from processes import PATIENCE
 
 Json = dict[str, Any]
+SCRIPT_TIME = 20_000
+"""Milliseconds that a page has for what a test waits for."""
+
+NARROWEST = 500
+"""How broad the window of WebKit is at least, in pixels."""
+
 MINI_BROWSER = "/usr/lib/x86_64-linux-gnu/webkit2gtk-4.1/MiniBrowser"
 ELEMENT = "element-6066-11e4-a52e-4f735466cecf"
 """The name of the number of an element in what a driver says."""
@@ -69,6 +75,16 @@ const look = () => {
 look();
 """
 """In Firefox, the roles and names that it gives to screen readers."""
+
+DROPPED = """
+for (const path of arguments[0]) {
+  const [given, file] = [new window.DataTransfer(), Cc["@mozilla.org/file/local;1"].createInstance(Ci.nsIFile)];
+  file.initWithPath(path);
+  given.mozSetDataAt("application/x-moz-file", file, 0);
+  window.dispatchEvent(new window.DragEvent("drop", { dataTransfer: given, bubbles: true }));
+}
+"""
+"""In Firefox, a drop of each of some paths."""
 
 ROLES = {"pushbutton": "button", "entry": "textbox", "graphic": "image", "statusbar": "status"}
 """The roles of Firefox that Chromium calls otherwise."""
@@ -126,7 +142,7 @@ class Marionette:
         self.received()
         capabilities = self.command("WebDriver:NewSession", {"strictFileInteractability": False})["capabilities"]
         self.version = f"Firefox {capabilities['browserVersion']}"
-        self.command("WebDriver:SetTimeouts", {"script": int(1000 * PATIENCE), "pageLoad": int(1000 * PATIENCE)})
+        self.command("WebDriver:SetTimeouts", {"script": SCRIPT_TIME, "pageLoad": int(1000 * PATIENCE)})
 
     def received(self) -> Any:
         """The next message: its length, and then its text."""
@@ -203,7 +219,7 @@ class WebKit:
         made = self.send("POST", "/session", capabilities={"alwaysMatch": options})
         self.session = f"/session/{made['sessionId']}"
         self.version = f"{made['capabilities']['browserName']} {made['capabilities']['browserVersion']}"
-        self.send("POST", "/timeouts", script=int(1000 * PATIENCE), pageLoad=int(1000 * PATIENCE))
+        self.send("POST", "/timeouts", script=SCRIPT_TIME, pageLoad=int(1000 * PATIENCE))
 
     def send(self, method: str, path: str, **words: object) -> Any:
         """The answer to a command."""
@@ -270,9 +286,13 @@ class Page:
         try:
             return self.script(f"return ({expression})")
         except Failed as problem:
-            if "SyntaxError" not in str(problem):
+            if not re.search("SyntaxError|Unexpected token", str(problem)):
                 raise
             return self.script(expression)
+
+    def until(self, expression: str) -> None:
+        """Waits until an expression is true."""
+        self.value(f"new Promise((done) => {{ const look = () => ({expression} ? done() : setTimeout(look, 5)); look(); }})")
 
     def press(self, key: str, _code: int = 0) -> None:
         """Presses a key."""
@@ -284,8 +304,12 @@ class Page:
         if isinstance(self.driver, Marionette):
             self.driver.send("POST", "/window/rect", width=1500, height=height + 100)
             self.driver.privileged("gBrowser.selectedBrowser.style.maxWidth = arguments[0];", f"{width}px")
+            self.until(f"innerWidth === {width}")
         else:
             self.driver.send("POST", "/window/rect", x=0, y=0, width=width, height=height)
+            if width < NARROWEST:
+                raise unittest.SkipTest("the window of WebKit cannot be so narrow")
+            self.until(f"innerWidth === {width}")
 
     def ask(self, method: str, **words: Any) -> Json:
         """What Chromium answers to a command, as far as the tests need it."""
@@ -313,9 +337,7 @@ class Page:
         is_dark = features[0]["value"] == "dark"
         set_to = "Services.prefs.setIntPref('layout.css.prefers-color-scheme.content-override', arguments[0])"
         self.driver.privileged(set_to, 0 if is_dark else 1)
-        self._evaluate(f"""new Promise((done) => {{
-            const look = () => (matchMedia("(prefers-color-scheme: dark)").matches === {str(is_dark).lower()} ? done() : setTimeout(look, 5));
-            look(); }})""")
+        self.until(f"matchMedia('(prefers-color-scheme: dark)').matches === {str(is_dark).lower()}")
 
     def _setDownloadBehavior(self, downloadPath: str, **_words: object) -> None:
         if isinstance(self.driver, Marionette):
@@ -324,6 +346,12 @@ class Page:
         saved = Path(self.driver.folder.name, "saved")
         saved.unlink(missing_ok=True)
         saved.symlink_to(downloadPath)
+
+    def _dispatchDragEvent(self, type: str, data: Json, **_words: object) -> None:
+        if not isinstance(self.driver, Marionette):
+            self._other()
+        if type == "drop":
+            self.script(DROPPED, data["files"], sandbox="system")
 
     def _getDocument(self) -> Json:
         return {"root": {"nodeId": 0}}
@@ -334,9 +362,6 @@ class Page:
     def _setFileInputFiles(self, nodeId: Json, files: list[str]) -> None:
         if not Path(files[0]).is_dir():
             self.driver.send("POST", f"/element/{nodeId[ELEMENT]}/value", text="\n".join(files))
-        elif isinstance(self.driver, Marionette):
-            told = "arguments[0].mozSetDirectory(arguments[1]); arguments[0].dispatchEvent(new window.Event('change', { bubbles: true }));"
-            self.script(told, nodeId, files[0], sandbox="system")
         else:
             self._other()
 
