@@ -263,7 +263,7 @@ class Sources(unittest.TestCase):
         for name in ("answers.mjs", "picture.mjs"):
             found = re.search(r"const KINDS = \{(.*?)\}", text_at("web", name), re.DOTALL)
             assert found is not None
-            self.assertEqual(set(re.findall(r"(\w+): ", found[1])), set(KINDS), name)
+            self.assertEqual(set(re.findall(r"(\w+): ", found[1])), {*KINDS, "unasserted"}, name)
 
 
 if __name__ == "__main__":
