@@ -44,6 +44,7 @@ export class Runner {
 
   #take({ number, part, done, failed }) {
     const waiting = this.#waiting.get(number);
+    if (!waiting) return; // it was stopped, and its worker had already answered
     if (part !== undefined) {
       waiting.onpart(part);
       return;

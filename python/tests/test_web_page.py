@@ -479,6 +479,21 @@ class Used(PageTest):
         self.assertFalse(self.value("document.querySelector('#go-on').checkVisibility()"))
         self.until("document.querySelector('#summary').textContent === '1 document: 1 not judged.'")
 
+    def test_a_browser_whose_workers_cannot_read_files(self) -> None:
+        begin = '<script type="text/plain" id="worker">"use strict";'
+        failing = 'Blob.prototype.arrayBuffer = () => Promise.reject(new DOMException("", "NotReadableError"));'
+        content = PAGE.read_text(encoding="utf-8")
+        self.assertEqual(content.count(begin), 1)
+        self.browser.open(str(self.write("other.html", content.replace(begin, begin + failing))))
+        self.choose(PORT)
+        self.judged()
+        self.assertIn("Accepted", self.text("#document p.verdict"))
+        self.write("port.evidence", Path(TOP, "samples", "rates.evidence").read_bytes())
+        self.choose(*(self.write(f"{number}.xml", document(EVENT)) for number in range(40)), self.folder / "port.evidence")
+        self.judged(41)
+        self.assertEqual(self.text("#summary"), "41 documents: 41 accepted.")
+        self.until("document.querySelector('#evidence-list').textContent.includes('refused, for port.xml')")
+
     def test_hostile_names_and_texts(self) -> None:
         events = '<EVENT eid="e1" class="STATE">{0}</EVENT><TIMEX3 tid="t1" type="SET" value="{0}"/>'
         escaped = HOSTILE.replace("&", "&amp;").replace("<", "&lt;").replace('"', "&quot;")
