@@ -43,6 +43,7 @@ const MOST_SAID = 20; // what is said of one interval of a picture
 const MOST_LINES = 500; // lines between the bars of a picture
 const KINDS = {
   event: "an event",
+  unasserted: "an event that is not asserted",
   exact: "a date",
   within: "a time within a date",
   free: "a time without a date",
@@ -55,7 +56,8 @@ const READING = [
   "An arrow between bars: before. A dashed arrow: before, or at once. A thick line: at once.",
   "A line meets a bar in its left third for its start, and in its right third for its end. An arrow from middle to middle leads from an "
     + "end to a start.",
-  "Events are blue, dates yellow, times within a date orange, and times without a date purple.",
+  "Events are blue, dates yellow, times within a date orange, and times without a date purple. Events are grey if the document does not "
+    + "assert them: an SLINK subordinates them as modal, conditional, negatively evidential or counterfactive, or their polarity is negative.",
 ];
 /** What a picture means. */
 

@@ -9,6 +9,7 @@ const SLOW = 2000; // milliseconds after which an older question is stopped if t
 const LONGEST_TEXT = 1 << 20; // bytes of a document that is opened here
 const AFTER_MARK = 1000; // characters after a marked stretch, so that lines are broken as in the field
 const ENDING = /\.(xml|tml|timeml)$/i;
+const LINE_ENDS = /\r\n|\n|\r/g;
 const SAMPLE = `<TimeML>
 It <EVENT eid="e1" class="OCCURRENCE">rained</EVENT> before the ships
 <EVENT eid="e2" class="OCCURRENCE">left</EVENT>.
@@ -80,7 +81,7 @@ export class Editor {
       return;
     }
     [this.#document, this.#isTyped] = [document, false];
-    this.#lineEnd = /\r\n/.test(found.text) && !/[^\r]\n/.test(found.text) ? "\r\n" : "\n";
+    this.#lineEnd = found.text.match(LINE_ENDS)?.[0] ?? "\n";
     this.#field.value = found.text;
     this.#field.setSelectionRange(0, 0);
     this.#judge();
@@ -163,7 +164,9 @@ async function textIn(file) {
   if (bytes === null) return { why: "The browser cannot read this file." };
   if (bytes.length > LONGEST_TEXT) return { why: "The document is longer than 1 MiB, which is too long for this pane." };
   const text = textOf(bytes);
-  return text.includes("\ufffd") && !isWhole(bytes) ? { why: "The document is not in UTF-8, so this pane would change it." } : { text };
+  if (text.includes("\ufffd") && !isWhole(bytes)) return { why: "The document is not in UTF-8, so this pane would change it." };
+  const isMixed = new Set(text.match(LINE_ENDS)).size > 1;
+  return isMixed ? { why: "The document has different line ends, so this pane would change it." } : { text };
 }
 
 /** Whether bytes are UTF-8. */

@@ -16,7 +16,7 @@ const LINES = {
 };
 /** Of each sign of an order its line. */
 
-const KINDS = { event: "", exact: ", date", within: ", within a date", free: ", no date" };
+const KINDS = { event: "", unasserted: ", not asserted", exact: ", date", within: ", within a date", free: ", no date" };
 /** What the label of a bar says of its kind. */
 
 const RIM = { stroke: "#ffffff", "stroke-width": 2, "stroke-linejoin": "round", "paint-order": "stroke" };

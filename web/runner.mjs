@@ -37,13 +37,14 @@ export class Runner {
 
   #started() {
     const worker = this.#start();
-    worker.onmessage = ({ data }) => this.#take(data);
+    worker.onmessage = ({ data }) => (data.port ? readFor(data) : this.#take(data));
     worker.onerror = ({ message }) => this.#end(new Error(message || "the worker has ended"));
     return worker;
   }
 
   #take({ number, part, done, failed }) {
     const waiting = this.#waiting.get(number);
+    if (!waiting) return; // it was stopped, and its worker had already answered
     if (part !== undefined) {
       waiting.onpart(part);
       return;
@@ -60,4 +61,9 @@ export class Runner {
     this.#waiting.clear();
     waiting.forEach(({ failed }) => failed(error));
   }
+}
+
+/** Reads a file for a worker that cannot. */
+async function readFor({ file, port }) {
+  port.postMessage(await file.arrayBuffer().catch(() => null));
 }

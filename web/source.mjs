@@ -1,7 +1,8 @@
 // A document that tml accepts: its tags as `tml spans` cuts it, its intervals and links as `tml check` names them, and its texts.
 import { Places, textOf, upTo } from "./places.mjs";
 
-const IDENTIFIERS = { EVENT: "eid", MAKEINSTANCE: "eiid", TIMEX3: "tid", TLINK: "lid" };
+const IDENTIFIERS = { EVENT: "eid", MAKEINSTANCE: "eiid", TIMEX3: "tid", TLINK: "lid", SLINK: "lid" };
+const SUBORDINATING = ["MODAL", "CONDITIONAL", "NEG_EVIDENTIAL", "COUNTER_FACTIVE"]; // SLINKs whose subordinated event is not asserted
 const UNIT = /^(\d+) (\d+) (\w+)(?: (.*))?$/gm;
 const ENTITIES = { lt: "<", gt: ">", amp: "&", quot: '"', apos: "'" };
 const LONGEST = 40;
@@ -37,6 +38,7 @@ export class Source {
   #instances = new Map();
   #events = new Map();
   #texts = new Map();
+  #unasserted = new Set();
 
   /** Of the bytes of a document, and what tml prints for `spans` and `check`. */
   constructor(bytes, spans, check) {
@@ -69,6 +71,11 @@ export class Source {
   /** Whether an interval is a time. */
   isTime(name) {
     return this.#instances.get(name)?.name === "TIMEX3";
+  }
+
+  /** Whether the document asserts an interval: not the event of a negative instance, and not one that such an SLINK subordinates. */
+  isAsserted(name) {
+    return !this.#unasserted.has(name);
   }
 
   /** What a link is called: by its lid, or by its number. */
@@ -166,8 +173,10 @@ export class Source {
 
   #nameIntervals() {
     for (const tag of this.#tags) {
-      const named = tag.name === "EVENT" ? this.#events : this.#instances;
-      if (tag.name !== "TLINK") named.set(this.value(tag, IDENTIFIERS[tag.name]), tag);
+      const [isLink, value] = [tag.name === "TLINK" || tag.name === "SLINK", (name) => this.value(tag, name)];
+      if (!isLink) (tag.name === "EVENT" ? this.#events : this.#instances).set(value(IDENTIFIERS[tag.name]), tag);
+      else if (tag.name === "SLINK" && SUBORDINATING.includes(value("relType"))) this.#unasserted.add(value("subordinatedEventInstance"));
+      if (tag.name === "MAKEINSTANCE" && value("polarity") === "NEG") this.#unasserted.add(value("eiid"));
     }
   }
 

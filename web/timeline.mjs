@@ -250,7 +250,6 @@ function barOf({ lower, upper }, interval) {
   };
 }
 
-/** Sentences about what is known: in the words of a document, and with its exact dates. */
 /** Sentences about what is known, in the words of a document. */
 class TimelineWords {
   #known;
@@ -328,7 +327,8 @@ export function modelOf(wording, matrix, signs) {
   const said = words.said();
   const rows = rowsOf(orders, known, names.map((name) => source.tagOf(name)?.start ?? 0)).map((interval) => {
     const [name, bar] = [names[interval], listed.has(interval) ? null : barOf(known, interval)];
-    return { interval, name, text: source.textOf(name), kind: kinds.get(name) ?? "event", bar, said: said[interval] };
+    const kind = kinds.get(name) ?? (source.isAsserted(name) ? "event" : "unasserted");
+    return { interval, name, text: source.textOf(name), kind, bar, said: said[interval] };
   });
   return {
     names,

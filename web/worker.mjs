@@ -8,6 +8,7 @@ import { Wording } from "./wording.mjs";
 
 const COUNTS = /^(events|instances|timex|signals|tlinks|alinks|slinks) (\d+)$/gm;
 const PAUSE = 60; // milliseconds between reports
+const AHEAD = 16; // files that are read before it is their turn: some browsers take 16 milliseconds for each, however short it is
 const CHECKED_BY_SPANS = 3; // faults up to this number are those that `spans` finds too
 const NOTHING_SAID = new Uint8Array(0);
 
@@ -50,8 +51,10 @@ function reason(error) {
 /** The verdicts on some files, told as they come. */
 async function checkAll(tml, { files }, tell) {
   let [found, since] = [[], Date.now()];
-  for (const { key, file } of files) {
-    const verdict = await checked(tml, file).catch((error) => ({ kind: "not judged", why: [reason(error)] }));
+  const reading = [];
+  for (const [index, { key, file }] of files.entries()) {
+    for (const next of files.slice(index + reading.length, index + AHEAD)) reading.push(contentOf(next.file, tml.mostOfDocument));
+    const verdict = verdictOn(tml, await reading.shift());
     // The page itself reads no sizes, since the browser looks each of them up while the page waits.
     found.push({ key, verdict: { ...verdict, size: file.size } });
     if (Date.now() - since < PAUSE) continue;
@@ -61,21 +64,32 @@ async function checkAll(tml, { files }, tell) {
   return found;
 }
 
-/** The verdict on a file: what tml says of it, or that it is evidence or cannot be read. */
-async function checked(tml, file) {
-  const bytes = await contentOf(file, tml.mostOfDocument);
+/** The verdict on what a file holds: what tml says of it, or that it is evidence or cannot be read. */
+function verdictOn(tml, bytes) {
   if (bytes === null) return { kind: "unreadable" };
   const command = checkerOf(bytes);
-  return command ? { kind: "evidence", command } : verdictOf(tml.run(["check", "first"], bytes), bytes);
+  if (command) return { kind: "evidence", command };
+  try {
+    return verdictOf(tml.run(["check", "first"], bytes), bytes);
+  } catch (error) {
+    return { kind: "not judged", why: [reason(error)] };
+  }
 }
 
 /** What a file holds, up to one byte more than so many, or null if it cannot be read. */
 async function contentOf(file, most) {
-  try {
-    return new Uint8Array(await file.slice(0, most + 1).arrayBuffer());
-  } catch {
-    return null;
-  }
+  const part = file.slice(0, most + 1);
+  const content = await part.arrayBuffer().catch(() => readByPage(part));
+  return content && new Uint8Array(content);
+}
+
+/** What the page reads of a file, or null: in WebKit, workers of a page from the disk cannot read any file. */
+function readByPage(file) {
+  const { port1, port2 } = new MessageChannel();
+  return new Promise((done) => {
+    port1.onmessage = ({ data }) => done(data);
+    postMessage({ file, port: port2 }, [port2]);
+  });
 }
 
 /** A verdict as a value. */

@@ -210,7 +210,8 @@ class PageTest(unittest.TestCase):
             if count == 1
             else f"document.querySelectorAll('#verdicts .name').length === {count}"
         )
-        self.until(f"document.querySelector('#checking').hidden && {shown}")
+        summed = f"document.querySelector('#summary').textContent.startsWith('{count} document')"
+        self.until(f"document.querySelector('#checking').hidden && {summed} && {shown}")
 
     def answer(self, command: str, *names: str) -> str:
         """The answer to a query."""
@@ -254,7 +255,7 @@ class Given(PageTest):
             server.settimeout(0)
             self.assertRaises(BlockingIOError, server.accept)
         self.assertEqual(answer["result"]["value"], ["refused", "refused"])
-        self.assertTrue(all("Content Security Policy" in one for one in self.browser.said), self.browser.said)
+        self.assertTrue(all("Content Security Policy" in one.replace("-", " ") for one in self.browser.said), self.browser.said)
         self.browser.said.clear()
 
     def test_a_drop_of_a_folder_and_a_file(self) -> None:
@@ -477,6 +478,21 @@ class Used(PageTest):
         self.assertRegex(self.text("#stopped span"), r"^this browser cannot run tml \(.*\): 0 documents not checked\.$")
         self.assertFalse(self.value("document.querySelector('#go-on').checkVisibility()"))
         self.until("document.querySelector('#summary').textContent === '1 document: 1 not judged.'")
+
+    def test_a_browser_whose_workers_cannot_read_files(self) -> None:
+        begin = '<script type="text/plain" id="worker">"use strict";'
+        failing = 'Blob.prototype.arrayBuffer = () => Promise.reject(new DOMException("", "NotReadableError"));'
+        content = PAGE.read_text(encoding="utf-8")
+        self.assertEqual(content.count(begin), 1)
+        self.browser.open(str(self.write("other.html", content.replace(begin, begin + failing))))
+        self.choose(PORT)
+        self.judged()
+        self.assertIn("Accepted", self.text("#document p.verdict"))
+        self.write("port.evidence", Path(TOP, "samples", "rates.evidence").read_bytes())
+        self.choose(*(self.write(f"{number}.xml", document(EVENT)) for number in range(40)), self.folder / "port.evidence")
+        self.judged(41)
+        self.assertEqual(self.text("#summary"), "41 documents: 41 accepted.")
+        self.until("document.querySelector('#evidence-list').textContent.includes('refused, for port.xml')")
 
     def test_hostile_names_and_texts(self) -> None:
         events = '<EVENT eid="e1" class="STATE">{0}</EVENT><TIMEX3 tid="t1" type="SET" value="{0}"/>'

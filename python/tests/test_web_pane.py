@@ -13,7 +13,7 @@ from picture_reader import Picture
 from reference import Outcome
 from reference.judge import expected
 from test_pictures import Truth, closure
-from test_web_page import HOSTILE, PORT, RATES, PageTest
+from test_web_page import HOSTILE, PAGE, PORT, RATES, PageTest
 from tml.explaining.faults import SENTENCES
 
 FERRY = Path(TOP, "samples", "ferry.xml")
@@ -104,12 +104,14 @@ class Written(PaneTest):
         self.assertEqual([one for one in seen if not one.startswith("Fault 10")], [])
 
     def test_a_text_is_saved_and_taken(self) -> None:
-        lines = RIGHT.replace("\n", "\r\n")
-        self.choose(self.write("given/rain.tml", lines))
-        self.judged()
-        self.opened()
-        self.click("#save-written")
-        self.assertEqual(self.saved("rain.tml"), lines.encode())
+        for name, line_end in (("rain.tml", "\r\n"), ("old.tml", "\r")):
+            lines = RIGHT.replace("\n", line_end)
+            self.browser.open(str(PAGE))
+            self.choose(self.write(f"given/{name}", lines))
+            self.judged()
+            self.opened()
+            self.click("#save-written")
+            self.assertEqual(self.saved(name), lines.encode())
         self.type("\ufeff" + WRONG)
         self.verdict("Fault 10 MissingAttribute, line 2, column 4")
         self.click("#take-written")
@@ -120,6 +122,7 @@ class Written(PaneTest):
     def test_what_cannot_be_edited(self) -> None:
         for name, content, said in (
             ("a.xml", b"<TimeML>\xff</TimeML>", "The document is not in UTF-8, so this pane would change it."),
+            ("c.xml", b"<TimeML>\r\n\n</TimeML>", "The document has different line ends, so this pane would change it."),
             ("b.xml", b"<TimeML>" + (1 << 20) * b" ", "The document is longer than 1 MiB, which is too long for this pane."),
         ):
             self.choose(self.write(name, content))
@@ -263,7 +266,7 @@ class Sources(unittest.TestCase):
         for name in ("answers.mjs", "picture.mjs"):
             found = re.search(r"const KINDS = \{(.*?)\}", text_at("web", name), re.DOTALL)
             assert found is not None
-            self.assertEqual(set(re.findall(r"(\w+): ", found[1])), set(KINDS), name)
+            self.assertEqual(set(re.findall(r"(\w+): ", found[1])), {*KINDS, "unasserted"}, name)
 
 
 if __name__ == "__main__":

@@ -10,6 +10,7 @@ import unittest
 from collections import Counter
 from dataclasses import replace
 from pathlib import Path
+from random import Random
 from typing import Any
 
 from building.page import tables
@@ -20,6 +21,7 @@ from reference.judge import expected
 from test_pictures import KINDS, Truth, closure, random_document
 from test_web import needs_node
 from tml.matrices import Matrix, read_matrix
+from tml_corpus.document.asserted import SUBORDINATING
 from tml_corpus.matrix.orders import PointOrders
 from tml_corpus.timeline.extents import Positions
 from tml_corpus.timeline.known import Known
@@ -39,6 +41,20 @@ class Called(Row):
         return self.text
 
 
+def partly_asserted(number: int) -> str:
+    """A random document that does not assert some of its events."""
+    chance, content = Random(f"asserted {number}"), random_document(number)
+    instances = re.findall(r'eiid="(i\d+)"', content)
+    for name in instances:
+        if chance.random() < 0.15:
+            content = content.replace(f'eiid="{name}"', f'eiid="{name}" polarity="{chance.choice(("NEG", "POS"))}"')
+        if chance.random() < 0.15:
+            relation = chance.choice((*SUBORDINATING, "FACTIVE", "EVIDENTIAL"))
+            slink = f'<SLINK eventInstanceID="{instances[0]}" subordinatedEventInstance="{name}" relType="{relation}"/>'
+            content = content.replace("</TimeML>", slink + "</TimeML>")
+    return content
+
+
 def answers_to(content: str) -> dict[str, str]:
     """What the reference answers to some commands about a document."""
     found = {command: expected([command.encode(), b"d"], {b"d": content.encode()}) for command in COMMANDS}
@@ -51,8 +67,10 @@ def rows_of(answers: dict[str, str], content: str) -> list[Row]:
     kinds = dict(line.split(" ")[:2] for line in answers["dates"].splitlines())
     ranks = [(int(start), int(end)) for start, end in re.findall(r"^at (\d+) (\d+)$", answers["solve"], re.MULTILINE)]
     texts = [name.replace("i", "w") for name in names]
+    reasons = {name: "negative polarity" for name in re.findall(r'eiid="(i\d+)" polarity="NEG"', content)}
+    reasons |= {name: how for name, how in re.findall(r'Instance="(i\d+)" relType="(\w+)"/>', content) if how in SUBORDINATING}
     return [
-        Called(name, text, kinds.get(name, "event"), *pair, place=content.index(f">{text}<"))
+        Called(name, text, kinds.get(name, "event"), *pair, place=content.index(f">{text}<"), unasserted=reasons.get(name, ""))
         for name, text, pair in zip(names, texts, ranks, strict=True)
     ]
 
@@ -70,7 +88,7 @@ def model_of(answers: dict[str, str], content: str) -> dict[str, Any]:
     return {
         "axis": known.axis,
         "order": order,
-        "kinds": [rows[number].kind for number in order],
+        "kinds": [rows[number].filling() for number in order],
         "listed": [number for number in order if number in listed],
         "lines": [[one.first, one.sign, one.second] for one in known.orders if not listed & {one.first // 2, one.second // 2}],
         "extents": [extent_of(known, number) for number in order if number not in listed],
@@ -102,7 +120,7 @@ class Models(unittest.TestCase):
 
     @classmethod
     def setUpClass(cls) -> None:
-        cls.contents = [random_document(number) for number in range(NETS)]
+        cls.contents = [partly_asserted(number) for number in range(NETS)]
         cls.answers = list(map(answers_to, cls.contents))
         given = [
             json.dumps({**answers, "document": content, "width": 200 + 10 * (number % 40)})
