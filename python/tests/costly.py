@@ -108,9 +108,7 @@ def long_names(count: int) -> Iterable[str]:
 def ring_of_references(share: float) -> bytes:
     """Very many references in one EVENT whose instances form a ring."""
     count = max(int(512 * share), 3)
-    return document(
-        f'<EVENT eid="e0" class="STATE">{"&#1;" * int(45_000 * share)}</EVENT>', instances(count), ring(count)
-    )
+    return document(f'<EVENT eid="e0" class="STATE">{"&#1;" * int(45_000 * share)}</EVENT>', instances(count), ring(count))
 
 
 def ring_in_text(share: float) -> bytes:
@@ -157,7 +155,9 @@ TEXTS: dict[str, Maker] = {
     "a text full of tags": filled(TAGS_IN_TEXT),
     "a text full of tags in one EVENT": filled(TAGS_IN_TEXT, before='<EVENT eid="e0" class="STATE">', after="</EVENT>" + INSTANCE),
     "events": filled('<EVENT eid="e{}" class="STATE">x</EVENT>'),
-    "events inside of an event": filled('<EVENT eid="e{}" class="STATE">x</EVENT>\n', before='<EVENT eid="f" class="STATE">', after="</EVENT>"),
+    "events inside of an event": filled(
+        '<EVENT eid="e{}" class="STATE">x</EVENT>\n', before='<EVENT eid="f" class="STATE">', after="</EVENT>"
+    ),
     "events without text": filled('<EVENT eid="e{}" class="STATE"/>\n'),
     "SLINKs": filled('<SLINK eventInstanceID="i0" subordinatedEventInstance="i0" relType="MODAL"/>\n', before=EVENT + INSTANCE),
     "ALINKs with identifiers": filled(
@@ -177,9 +177,7 @@ TEXTS: dict[str, Maker] = {
     "signs like tags without their <": filled("EVENT a=> ", before="<P>", after="</P>"),
     "names like tags without their <": filled("EVENT ", before="<P>", after="&gt;</P>"),
     "marks of versions": filled("<![CDATA[".replace("<![CDATA[", "=======\n>>>>>>> a\n"), before="<P>\n", after="</P>"),
-    "a time of very many digits": lambda share: document(
-        f'<TIMEX3 tid="t" type="DATE" value="P{"1" * int(4_000_000 * share)}">x</TIMEX3>'
-    ),
+    "a time of very many digits": lambda share: document(f'<TIMEX3 tid="t" type="DATE" value="P{"1" * int(4_000_000 * share)}">x</TIMEX3>'),
     "a time of very many clocks": lambda share: document(
         f'<TIMEX3 tid="t" type="TIME" value="{"1998-03-11 1:T11.1" * int(200_000 * share)}">x</TIMEX3>'
     ),
@@ -198,7 +196,9 @@ BROKEN: dict[str, Maker] = {
     "unknown tags": filled("<foo>x</foo>\n"),
     "unknown tags of many names": filled("<foo{0}>x</foo{0}>\n"),
     "tags in other letters": filled('<event eid="e{}" class="STATE">x</event>\n'),
-    "tags in a link": filled("<s>x</s>", before=EVENT + INSTANCE + '<TLINK eventInstanceID="i0" relatedToEventInstance="i0" relType="DURING">'),
+    "tags in a link": filled(
+        "<s>x</s>", before=EVENT + INSTANCE + '<TLINK eventInstanceID="i0" relatedToEventInstance="i0" relType="DURING">'
+    ),
     "far duplicates": filled(event(1).replace("1", "{}"), most=DOCUMENT_LIMIT // 2, after="<P>" + "<s>x</s>" * 1000 + "</P>" + event(1)),
     "duplicates": filled(event(1)),
     "duplicates of many names": lambda share: document(*[event(one) for one in range(int(45_000 * share))] * 2),

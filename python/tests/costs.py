@@ -106,13 +106,18 @@ def session(content: bytes) -> bytes:
     for place in positions(content):
         given = {"textDocument": about, "position": place}
         messages += [
-            {"method": f"textDocument/{name}", "params": given} for name in ("hover", "definition", "completion", "references", "prepareRename")
+            {"method": f"textDocument/{name}", "params": given}
+            for name in ("hover", "definition", "completion", "references", "prepareRename")
         ]
         messages.append({"method": "textDocument/rename", "params": {**given, "newName": "other"}})
         near = {"start": place, "end": {**place, "character": place["character"] + 3}}
-        messages.append({"method": "textDocument/codeAction", "params": {"textDocument": about, "range": near, "context": {"diagnostics": []}}})
+        messages.append(
+            {"method": "textDocument/codeAction", "params": {"textDocument": about, "range": near, "context": {"diagnostics": []}}}
+        )
     whole = {"start": {"line": 0, "character": 0}, "end": {"line": text.count("\n") + 1, "character": 0}}
-    messages.append({"method": "textDocument/codeAction", "params": {"textDocument": about, "range": whole, "context": {"diagnostics": []}}})
+    messages.append(
+        {"method": "textDocument/codeAction", "params": {"textDocument": about, "range": whole, "context": {"diagnostics": []}}}
+    )
     messages += [{"method": "shutdown", "params": None}, {"method": "exit"}]
     for number, message in enumerate(messages):
         if message["method"] not in ("initialized", "textDocument/didOpen", "exit"):
