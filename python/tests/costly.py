@@ -245,4 +245,16 @@ BROKEN: dict[str, Maker] = {
 }
 """Documents that have faults."""
 
-SHAPES = NETS | TEXTS | BROKEN
+LONGEST_SEARCHED = 320_000
+"""In about so many bytes at most a wrong keystroke is searched for."""
+
+
+def short(make: Maker) -> Maker:
+    """The same as long as a document may be in which a wrong keystroke is searched for."""
+    return lambda share: make(share * LONGEST_SEARCHED / DOCUMENT_LIMIT)
+
+
+SHORT: dict[str, Maker] = {f"{name}, short": short(make) for name, make in BROKEN.items()}
+"""Documents that have faults, and in which a wrong keystroke is searched for."""
+
+SHAPES = NETS | TEXTS | BROKEN | SHORT

@@ -28,6 +28,12 @@ from forked import become, import_ahead
 SECONDS, MEBIBYTES, GROWTH = 5.0, 300, 2.5
 """What a command may take at the limits: processor time, memory, and for twice the size times what it takes for the size."""
 
+BEGINNING = 0.3
+"""How many seconds the beginning of a process may take, however small its document is."""
+
+TRIES = 3
+"""How often a process is measured that seems to take too long: on a busy machine one may take more than it needs."""
+
 SHOWN_SECONDS = 1.0
 PATIENCE = 150
 """After how many seconds of processor time a process is ended."""
@@ -231,6 +237,23 @@ def cost(command: str, content: bytes) -> Cost:
     if b"Traceback" in error or found.status in (101, -signal.SIGXCPU, -signal.SIGKILL):
         sys.stderr.buffer.write(f"{command}: status {found.status}\n".encode() + error[-2000:])
     return found
+
+
+def breach(command: str, shape: str, share: float) -> str | None:
+    """What a command takes too much of for a document of a share of the limits; None if it takes no more than it may.
+
+    Growth is that from a quarter of the size.
+    """
+    make = SHAPES[shape]
+    room = SECONDS * share + BEGINNING
+    for _ in range(TRIES):
+        found = cost(command, make(share))
+        if found.mebibytes > MEBIBYTES:
+            return f"{command} of {shape}: {found.mebibytes:.0f} MiB"
+        growth = found.seconds / cost(command, make(share / 4)).seconds if found.seconds > BEGINNING else 0.0
+        if found.seconds <= room and growth <= GROWTH**2:
+            return None
+    return f"{command} of {shape}: {found.seconds:.2f} seconds, {growth:.1f} times those of a quarter"
 
 
 def is_chosen(name: str, patterns: Iterable[str]) -> bool:
