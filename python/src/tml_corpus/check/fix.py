@@ -169,7 +169,7 @@ def mended(program: Program, document: bytes, unsafe: bool = False, encoding: st
         found = steps_of_warnings(program, fixed.after, unsafe)
         room -= len(fixed.after)
         if fault is not None:
-            origin = cache(partial(found_origin, program, fixed.after, fault)) if room > 0 else Explained
+            origin = cache(partial(found_origin, program, fixed.after, fault) if room > 0 else partial(Explained))
             found = chain(step_from(program, fixed.after, fault, encoding), steps(program, fixed.after, fault, origin, unsafe))
         step = next(found, None)
         if step is None:
