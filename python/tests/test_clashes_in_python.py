@@ -130,14 +130,14 @@ class ByConfidence(unittest.TestCase):
             kept += [number] if tml.clash(tml.expect(beside, bytes), by=self.by) is None else []
         return [triples[number] for number in sorted(kept)]
 
-    def test_each_that_clashes_with_more_confident_ones_goes_by_five_questions(self) -> None:
+    def test_each_that_clashes_with_more_confident_ones_goes_by_four_questions(self) -> None:
         random, by = Random(7), Counting(TML)
         for _ in range(12):
             document, triples, weights = self.drawn(random)
             by.asked = []
             found = tml.expect(tml.consistent(document, triples, weights, by=by), tml.Consistent)
             self.assertGreater(len(found.dropped), 5)
-            self.assertEqual(by.asked, ["check", "spans", "solve", "dates", "matrix"])
+            self.assertEqual(by.asked, ["check", "solve", "dates", "matrix"])
             self.assertEqual(list(found.kept), self.kept_one_by_one(document, triples, weights))
             self.assertEqual(sorted(found.kept + found.dropped), sorted(triples))
             self.assertIsNone(tml.clash(found.document, by=self.by))

@@ -100,6 +100,8 @@ class Answer:
     by: Answerer
     status: TmlStatus
     text: bytes
+    model: Document | None = None
+    """The model of the first file, if it was given in its place."""
 
     def problem(self) -> Fault | TooLong | None:
         """Why there is no answer, where a document has a fault or a file is too long."""
@@ -148,7 +150,8 @@ def answer_to(by: Answerer | None, command: str, *files: File, arguments: Sequen
         raise unknown_name(answerer, given[0], arguments, text.decode("ascii").split()[1])
     if status in (TmlStatus.USAGE, TmlStatus.READ_FAULT, TmlStatus.WRITE_FAULT):
         raise ValueError(f"tml has no answer to `{' '.join((command, *arguments))}`")
-    return Answer(command, given, answerer, status, text)
+    model = files[0] if files and isinstance(files[0], Document) else None
+    return Answer(command, given, answerer, status, text, model)
 
 
 def unknown_name(answerer: Answerer, document: bytes, arguments: Sequence[str], word: str) -> UnknownName:

@@ -10,15 +10,16 @@ from functools import cached_property
 from numbers import Real
 
 from .asking import Answer, Answerer, File, answer_to, content
+from .documents import Document
 from .helping import complete
 from .matrices import Matrix, read_matrix
-from .questions import check, dates, spans
-from .reading import cited
+from .questions import check, dates
+from .reading import cited, times_of
 from .results import Consistent, Fault, Relation, TooLong
 from .skeletons import Skeleton
 from .statuses import BESIDE_BASE, DOCUMENT_LIMIT, LINK_LIMIT, TmlStatus
 from .walks import fitting
-from .writing import Linkables, ends_in, links_in, with_tags
+from .writing import Ends, Linkables, links_in, with_tags
 
 __all__ = ["consistent"]
 
@@ -35,15 +36,14 @@ def consistent(document: File, links: Linkables, weights: Iterable[float], by: A
     wanted, confidences, given = links_in(links), list(weights), content(document, DOCUMENT_LIMIT)
     relations = [one.says() for one in wanted]
     expect_weights(relations, confidences)
-    accepted, units = check(given, by), spans(given, by)
+    accepted = document.counted() if isinstance(document, Document) else check(given, by)
     if isinstance(accepted, (Fault, TooLong)):
         return accepted
-    assert isinstance(units, list)
-    ends = ends_in(given, accepted, units)
+    ends = Ends(accepted.intervals, times_of(given), given)
     tags = [ends.tag(one) for one in wanted]
     ordered = sorted(range(len(relations)), key=confidences.__getitem__, reverse=True)
     kept = Filter(given, accepted.intervals, relations, [tag.encode() for tag in tags], ordered, by).kept()
-    made = with_tags(given, units, [tags[number] for number in sorted(kept)])
+    made = with_tags(given, [tags[number] for number in sorted(kept)])
     dropped = [number for number in ordered if number not in kept]
     return Consistent(tuple(relations[number] for number in sorted(kept)), tuple(relations[number] for number in dropped), made)
 

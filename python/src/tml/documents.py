@@ -1,19 +1,22 @@
 """The model of an accepted document: its events, instances, times, signals and links, with their attributes, texts and places.
 
-It is made from what `check` and `spans` say of the document: the one has the names and numbers, and the other one the tags.
+It is made from the document and what `check` says of it: the one has the tags, and the other one the names and numbers.
 """
 
 from __future__ import annotations
 
 import re
-from collections.abc import Iterator, Mapping, Sequence
+from collections.abc import Iterator, Mapping
 from dataclasses import dataclass, field
 from functools import cached_property
-from typing import Any, NamedTuple, TypeVar
+from typing import TYPE_CHECKING, Any, NamedTuple, TypeVar
 
 from .misuse import ByName, unknown_identifier
-from .results import Accepted, Link, Part, Relation, Result, Unit
+from .results import Accepted, Link, Part, Relation, Result
 from .running import CannotRun
+
+if TYPE_CHECKING:
+    from .tags.units import Units
 
 __all__ = ["Document", "Event", "Instance", "Signal", "Stretch", "Tag", "Time", "TLink"]
 
@@ -171,6 +174,21 @@ class Document(Result):
         """The tag with an identifier, or the default if there is none."""
         return self.by_identifier.get(identifier, default)
 
+    def counted(self) -> Accepted:
+        """What `check` says of it."""
+        links = tuple(Link(one.number, one.first, one.relation, one.second, one.lid) for one in self.links)
+        alinks = sum(one.name == "ALINK" for one in self.other_links)
+        counts = (
+            len(self.events),
+            len(self.instances),
+            len(self.times),
+            len(self.signals),
+            len(links),
+            alinks,
+            len(self.other_links) - alinks,
+        )
+        return Accepted(*counts, tuple(self.intervals), links)
+
     @property
     def creation_time(self) -> Time | None:
         """The time at which it was made, where it says one."""
@@ -182,9 +200,9 @@ def in_order(*tags: AnyTag) -> list[AnyTag]:
     return sorted(tags, key=lambda one: one.bytes.start)
 
 
-def document_from(content: bytes, path: str | None, accepted: Accepted, units: Sequence[Unit]) -> Document:
-    """The model of a document, by what `check` and `spans` said of it."""
-    reader = Reader(content, units)
+def document_from(content: bytes, path: str | None, accepted: Accepted) -> Document:
+    """The model of a document, by what `check` said of it."""
+    reader = Reader(content)
     events = tuple(Event(**one) for one in reader.tags("EVENT"))
     by_name = {one.id: one for one in events}
     instances = tuple(instance_of(one, by_name) for one in reader.tags("MAKEINSTANCE"))
@@ -199,6 +217,16 @@ def document_from(content: bytes, path: str | None, accepted: Accepted, units: S
     if tuple(made.intervals) != accepted.intervals:
         raise CannotRun(APART)
     return made
+
+
+def units_of(content: bytes) -> Units:
+    """The units of an accepted document."""
+    from .tags.cutting import cut
+
+    units = cut(content)
+    if units is None:
+        raise CannotRun(APART)
+    return units
 
 
 def instance_of(tag: dict[str, Any], events: Mapping[str | None, Event]) -> Instance:
@@ -217,69 +245,71 @@ def link_of(tag: dict[str, Any], link: Link) -> TLink:
 
 def decoded(text: str) -> str:
     """A text or a value with its references decoded."""
+    if "&" not in text:
+        return text
     return REFERENCE.sub(lambda found: SIGNS[found[1]] if found[1] else chr(int(found[2]) if found[2] else int(found[3], 16)), text)
 
 
-class Reader:
-    """The tags of a document as the model has them."""
+@dataclass(slots=True)
+class Element:
+    """A tag with what it holds: its name, where its start tag begins and ends, where it ends itself, and the same two of its words."""
 
-    def __init__(self, content: bytes, units: Sequence[Unit]) -> None:
-        self.content, self.units = content, units
-        self.texts: list[str] = []
-        self.before: list[int] = []
-        """Of each unit how many characters of the text stand before it."""
-        length = 0
-        for unit in units:
-            self.before.append(length)
-            if unit.kind == "text":
-                self.texts.append(decoded(content[unit.start : unit.end].decode()))
-                length += len(self.texts[-1])
-        self.text = "".join(self.texts)
-        self.before.append(length)
-        self.ends = dict(self.elements())
+    name: str
+    start: int
+    tag_end: int
+    end: int
+    first: int
+    last: int
+
+
+class Reader:
+    """The tags of an accepted document as the model has them. It is gone through once, and only what has a meaning becomes an object."""
+
+    def __init__(self, content: bytes) -> None:
+        from .tags.source import VALUES
+        from .tags.units import END, START, TEXT
+
+        units = units_of(content)
+        self.content, self.values = content, VALUES
+        self.elements: list[Element] = []
+        wanted = {number: (word, list[Element]()) for number, word in enumerate(units.words) if word in IDENTIFIERS}
+        texts, length = list[str](), 0
+        for row, (kind, number) in enumerate(zip(units.kinds, units.names, strict=True)):
+            if kind == TEXT:
+                texts.append(decoded(content[units.starts[row] : units.ends[row]].decode()))
+                length += len(texts[-1])
+            elif number in wanted:
+                name, open_tags = wanted[number]
+                if kind == END:
+                    element = open_tags.pop()
+                    element.end, element.last = units.ends[row], length
+                    continue
+                self.elements.append(Element(name, units.starts[row], units.ends[row], units.ends[row], length, length))
+                open_tags += self.elements[-1:] if kind == START else []
+        self.text = "".join(texts)
         self.characters = dict(self.counted())
 
-    def elements(self) -> Iterator[tuple[int, int]]:
-        """Of each start and empty tag the number of the unit at which it ends."""
-        open_tags: list[int] = []
-        for number, unit in enumerate(self.units):
-            if unit.kind == "empty":
-                yield number, number
-            elif unit.kind == "start":
-                open_tags.append(number)
-            elif unit.kind == "end" and open_tags:
-                yield open_tags.pop(), number
-
     def counted(self) -> Iterator[tuple[int, int]]:
-        """Of the bounds of the units how many characters stand before them."""
+        """Of the bounds of the tags how many characters stand before them."""
         place, count = 0, 0
-        yield place, count
-        for unit in self.units:
-            count += len(self.content[place : unit.end].decode())
-            place = unit.end
+        for bound in sorted({bound for one in self.elements for bound in (one.start, one.end)}):
+            count += len(self.content[place:bound].decode())
+            place = bound
             yield place, count
 
     def tags(self, *names: str) -> Iterator[dict[str, Any]]:
         """The tags of some kinds in their order, by the fields of `Tag`."""
-        for number, unit in enumerate(self.units):
-            if unit.name in names and number in self.ends:
-                yield self.tag(number, unit, self.ends[number])
+        return (self.tag(one) for one in self.elements if one.name in names)
 
-    def tag(self, number: int, unit: Unit, end: int) -> dict[str, Any]:
+    def tag(self, one: Element) -> dict[str, Any]:
         """A tag by the fields of `Tag`."""
-        attributes = {one.name: self.value(one.start, one.end) for one in unit.attributes}
-        place, words = Stretch(unit.start, self.units[end].end), Stretch(self.before[number], self.before[end])
+        attributes = {name: decoded(value) for name, value in self.values[self.content[one.start : one.tag_end]].items()}
         return {
-            "name": unit.name,
-            "id": attributes.get(IDENTIFIERS[str(unit.name)]) or None,
+            "name": one.name,
+            "id": attributes.get(IDENTIFIERS[one.name]) or None,
             "attributes": attributes,
-            "text": self.text[words.start : words.end],
-            "bytes": place,
-            "characters": Stretch(*(self.characters[one] for one in place)),
-            "stretch": words,
+            "text": self.text[one.first : one.last],
+            "bytes": Stretch(one.start, one.end),
+            "characters": Stretch(self.characters[one.start], self.characters[one.end]),
+            "stretch": Stretch(one.first, one.last),
         }
-
-    def value(self, start: int, end: int) -> str:
-        """The value of an attribute, by its bounds."""
-        written = self.content[start:end]
-        return decoded(written[written.index(written[-1:]) + 1 : -1].decode())

@@ -68,6 +68,8 @@ Problem = TypeVar("Problem")
 
 def accepted_of(answer: Answer) -> Accepted:
     """What the document of a question has, which was accepted: its intervals and links have names and numbers there."""
+    if answer.model is not None:
+        return answer.model.counted()
     return read_accepted(answer_to(answer.by, "check", answer.files[0]).text, answer.files[0])
 
 
@@ -93,10 +95,8 @@ def read(document: File, by: Answerer | None = None) -> Document | Fault | TooLo
     problem = answer.problem()
     if problem is not None:
         return problem
-    [content] = answer.files
-    units = read_units(answer_to(answer.by, "spans", content).text)
     path = os.fspath(document) if isinstance(document, (str, os.PathLike)) else None
-    return document_from(content, path, read_accepted(answer.text, content), units)
+    return document_from(answer.files[0], path, read_accepted(answer.text, b""))
 
 
 def spans(document: File, by: Answerer | None = None) -> list[Unit] | Fault | TooLong:

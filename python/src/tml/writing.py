@@ -5,17 +5,21 @@ from __future__ import annotations
 import html
 import re
 from collections.abc import Collection, Iterable, Mapping, Sequence
+from functools import cached_property
 from itertools import count
-from typing import Any, Protocol
+from typing import TYPE_CHECKING, Any, Protocol
 
 from . import reading
 from .asking import Answerer, File, content
-from .documents import Time, TLink
+from .documents import Document, Time, TLink, units_of
 from .helping import complete
 from .misuse import unknown_interval, unknown_relation
-from .questions import check, spans
-from .results import Accepted, Fault, Link, Relation, TooLong, Unit
+from .questions import check
+from .results import Fault, Link, Relation, TooLong
 from .statuses import DOCUMENT_LIMIT, IDENTIFIER_LIMIT, RELATIONS
+
+if TYPE_CHECKING:
+    from .tags.units import Units
 
 __all__ = ["Linkable", "document_of", "with_links"]
 
@@ -52,52 +56,42 @@ def with_links(document: File, relations: Linkables, by: Answerer | None = None)
     A link keeps its `lid` if no other tag has it. The names are those of the intervals of the document.
     """
     given = content(document, DOCUMENT_LIMIT)
-    accepted, units = check(given, by), spans(given, by)
+    accepted = document.counted() if isinstance(document, Document) else check(given, by)
     if isinstance(accepted, (Fault, TooLong)):
         return accepted
-    assert isinstance(units, list)
-    ends = ends_in(given, accepted, units)
-    return with_tags(given, units, [ends.tag(one) for one in links_in(relations)])
+    ends = Ends(accepted.intervals, reading.times_of(given), given)
+    return with_tags(given, [ends.tag(one) for one in links_in(relations)])
 
 
-def with_tags(document: bytes, units: Sequence[Unit], tags: Iterable[str]) -> bytes:
-    """A document that was cut into units with other tags as its links."""
+def with_tags(document: bytes, tags: Iterable[str]) -> bytes:
+    """An accepted document with other tags as its links."""
+    units = units_of(document)
     links = "".join(f"{tag}\n" for tag in tags).encode()
     kept, place = [], 0
     for start, end in of_links(units):
         kept.append(document[place:start])
         place = end
-    root = next(unit for unit in reversed(units) if unit.name == "TimeML")
+    *_, root = units.named("TimeML")
     if root.kind == "empty":
         return document[: root.end - 2] + b">" + links + b"</TimeML>" + document[root.end :]
     return b"".join((*kept, document[place : root.start], links, document[root.start :]))
 
 
-def of_links(units: Iterable[Unit]) -> Iterable[tuple[int, int]]:
+def of_links(units: Units) -> Iterable[tuple[int, int]]:
     """Where the TLINK tags stand, each to the end of what it may enclose."""
     start = 0
-    for unit in units:
-        if unit.name == "TLINK":
-            start = unit.start if unit.kind != "end" else start
-            if unit.kind != "start":
-                yield start, unit.end
+    for unit in units.named("TLINK"):
+        start = unit.start if unit.kind != "end" else start
+        if unit.kind != "start":
+            yield start, unit.end
 
 
-def identifiers_of(document: bytes, units: Iterable[Unit]) -> set[str]:
-    """The identifiers of the tags of a document that are no TLINK."""
-    written = (
-        document[one.start : one.end]
-        for unit in units
-        if unit.name != "TLINK"
-        for one in unit.attributes
-        if one.name in ("eid", "eiid", "tid", "sid", "lid")
-    )
-    return {text[text.index(text[-1:]) + 1 : -1].decode() for text in written}
+def identifiers_of(document: bytes) -> set[str]:
+    """The identifiers of the tags of an accepted document that are no TLINK."""
+    from .tags.source import VALUES
 
-
-def ends_in(document: bytes, accepted: Accepted, units: Iterable[Unit]) -> Ends:
-    """What the links of an accepted document may have at their ends."""
-    return Ends(accepted.intervals, reading.times_of(document), reading.events_of(document), identifiers_of(document, units))
+    tags = (document[unit.start : unit.end] for unit in units_of(document) if unit.opens() and unit.name != "TLINK")
+    return {values[name] for values in map(VALUES.__getitem__, tags) for name in ("eid", "eiid", "tid", "sid", "lid") if name in values}
 
 
 def document_of(relations: Linkables, times: Mapping[str, str] | Sequence[Time] | None = None) -> bytes:
@@ -169,22 +163,21 @@ def link_of(number: int, row: Any) -> Link:
 
 
 class Ends:
-    """The names that links may have at their ends, of which some are times, and the identifiers that are taken."""
+    """The names that links of a document may have at their ends, of which some are times."""
 
-    def __init__(
-        self,
-        names: Sequence[str],
-        times: Collection[str],
-        events: Mapping[str, Sequence[str]] | None = None,
-        taken: set[str] | None = None,
-    ) -> None:
-        self.names, self.known, self.times, self.events, self.taken = names, set(names), times, events or {}, taken or set()
+    def __init__(self, names: Sequence[str], times: Collection[str], document: bytes = b"") -> None:
+        self.names, self.known, self.times, self.document = names, set(names), times, document
+
+    @cached_property
+    def taken(self) -> set[str]:
+        """The identifiers that are taken."""
+        return identifiers_of(self.document) if self.document else set()
 
     def tag(self, one: Link) -> str:
         """The tag of a link."""
         for name in (one.first, one.second):
             if name not in self.known:
-                raise unknown_interval(name, self.names, self.events.get(name, ()))
+                raise unknown_interval(name, self.names, reading.events_of(self.document).get(name, ()))
         if one.relation not in RELATIONS:
             raise unknown_relation(one.relation)
         ends = [

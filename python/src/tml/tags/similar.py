@@ -79,4 +79,11 @@ def slips(one: str, other: str, most: int) -> int:
 
 def one_letter_apart(one: str, other: str) -> bool:
     """Whether two names differ by one letter: another one, one more, one less, or two that changed places; or only by case."""
-    return slips(one.casefold(), other.casefold(), 1) <= 1
+    one, other = one.casefold(), other.casefold()
+    if abs(len(one) - len(other)) > 1:
+        return False
+    same = next(
+        (place for place, (letter, meant) in enumerate(zip(one, other, strict=False)) if letter != meant), min(len(one), len(other))
+    )
+    one, other = one[same:], other[same:]
+    return other[1:] in (one, one[1:]) or one[1:] == other or one == other[1::-1] + other[2:]

@@ -3,12 +3,12 @@
 from __future__ import annotations
 
 import re
-from collections.abc import Callable, Iterable, Iterator
+from collections.abc import Callable, Iterator
 from functools import cached_property
-from typing import Any, NamedTuple, Protocol, TypeVar
+from typing import Any, NamedTuple, TypeVar
 
 from ..places import Places
-from ..statuses import MANY_BYTES, MOST_REMEMBERED
+from ..statuses import MOST_REMEMBERED
 from .edits import Edit, Ways
 from .profile import IDENTIFIERS, LEFT, RIGHT, ROOT, TABLE, Kind
 from .units import END, START, TEXT, Attribute, Unit, Units
@@ -101,37 +101,21 @@ class ValuesAsWritten(dict[bytes, dict[str, str]]):
 
     def __missing__(self, tag: bytes) -> dict[str, str]:
         written = tag.decode("utf-8", "surrogateescape")
-        parts = written.split(DOUBLE)
-        names = self.names[tuple(parts[::2])] if SINGLE not in written else None
+        parts = written.split(DOUBLE, LONGEST_REMEMBERED)
+        is_short = len(tag) <= LONGEST_REMEMBERED
+        names = self.names[tuple(parts[::2])] if is_short and SINGLE not in written else None
         if names is None:
-            values = {one: first or second for one, first, second in reversed(VALUE.findall(written))}
+            values = dict[str, str]()
+            for found in VALUE.finditer(written):
+                values.setdefault(found[1], found[2] or found[3] or "")
         else:
             values = dict(zip(names, parts[1::2], strict=True))
-        if len(self) < MOST_REMEMBERED and len(tag) <= LONGEST_REMEMBERED:
+        if len(self) < MOST_REMEMBERED and is_short:
             self[tag] = values
         return values
 
 
 VALUES = ValuesAsWritten()
-
-
-class Values(Protocol):
-    """The values of the attributes of a tag."""
-
-    def get(self, name: str, other: str, /) -> str:
-        """The value of an attribute, or another text where it is not there."""
-
-
-class SoughtValues(NamedTuple):
-    """Those of a tag of a long document, each of which is looked for where it is asked for."""
-
-    tag: Unit
-    document: bytes
-
-    def get(self, name: str, other: str, /) -> str:
-        """The value of an attribute, or another text where it is not there."""
-        value = self.tag.value_of(name, self.document)
-        return other if value is None else value
 
 
 class Source:
@@ -143,7 +127,6 @@ class Source:
         self.fresh_names: dict[str, str] = {}
         self.made: dict[tuple[str, str], Any] = {}
         self.known_values: dict[int, dict[str, str]] = {}
-        self.known_rows: dict[str, list[tuple[Unit, Values]]] = {}
         self.known_identifiers: dict[str, dict[str, Unit]] = {}
 
     @cached_property
@@ -158,12 +141,7 @@ class Source:
 
     def value(self, tag: Unit, name: str) -> str:
         """The value of an attribute; nothing where it is not there."""
-        values = self.known_values.get(tag.start)
-        if values is None:
-            if len(self.document) > MANY_BYTES:
-                return tag.value_of(name, self.document) or ""
-            values = self.values(tag)
-        return values.get(name, "")
+        return self.values(tag).get(name, "")
 
     def values(self, tag: Unit) -> dict[str, str]:
         """The values of the attributes of a tag, which are kept."""
@@ -172,15 +150,9 @@ class Source:
             values = self.known_values[tag.start] = VALUES[self.document[tag.start : tag.end]]
         return values
 
-    def valued(self, kind: str) -> Iterable[tuple[Unit, Values]]:
+    def valued(self, kind: str) -> Iterator[tuple[Unit, dict[str, str]]]:
         """The tags of a kind with their values."""
-        found = self.known_rows.get(kind)
-        if found is None:
-            tags = self.tags(kind)
-            if len(self.document) > MANY_BYTES:
-                return ((tag, SoughtValues(tag, self.document)) for tag in tags)
-            found = self.known_rows[kind] = [(tag, self.values(tag)) for tag in tags]
-        return found
+        return ((tag, self.values(tag)) for tag in self.tags(kind))
 
     @cached_property
     def links(self) -> list[tuple[str, str, str]]:

@@ -19,7 +19,7 @@ from tml.tags.cutting import units_of_whole
 from tml.tags.edits import Edit, applied
 from tml.tags.similar import plain
 from tml.tags.source import Explanation, Source
-from tml.tags.units import Units
+from tml.tags.units import Unit, Units, unit_at
 
 from ..asking.program import FAULT, CannotRun, Program
 from ..asking.room import document_of
@@ -36,6 +36,9 @@ from .judgement import problem_of
 ROUNDS = 64
 """How many kinds of slips are fixed in one document at most, one after another."""
 
+MOST_SEARCHED = 6 << 20
+"""In how many bytes of a document together, which changes from one slip to the next, a wrong keystroke is searched for."""
+
 MOST_EDITS = 100_000
 """A kind of slip that is there more often is left."""
 
@@ -48,39 +51,40 @@ CONTEXT = 3
 FOUND_LINK = "is a symbolic link found in a folder: name it to fix what it leads to"
 
 
-Edits = Callable[[Source], Iterator[Edit]]
+Edits = Callable[[Source, Fault], Iterable[Edit]]
 NOTATIONS: dict[int, list[tuple[str, Edits]]] = {
     faults.NOT_UTF8: [
-        ("the encoding that the file declares", lambda source: converted(source.document, declared_encoding(source.document)))
+        ("the encoding that the file declares", lambda source, _: converted(source.document, declared_encoding(source.document)))
     ],
     faults.BAD_REFERENCE: [
-        ("HTML entities", lambda source: (edit for edit in reference_edits(source.document) if is_entity(source.document, edit)))
+        ("HTML entities", lambda source, _: (edit for edit in reference_edits(source.document) if is_entity(source.document, edit)))
     ],
     faults.BAD_MARKUP: [
-        ("CDATA sections", lambda source: cdata_edits(source.document)),
-        ("curly quotes", lambda source: quote_edits(source.document)),
+        ("CDATA sections", lambda source, _: cdata_edits(source.document)),
+        ("curly quotes", lambda source, _: quote_edits(source.document)),
     ],
-    faults.UNKNOWN_TAG: [("tags in other letters", lambda source: in_other_letters(source.document, name_edits(source)))],
-    faults.UNBALANCED: [("tags in other letters", lambda source: in_other_letters(source.document, end_edits(source)))],
-    faults.BAD_VALUE: [
-        ("values in other letters", lambda source: in_other_letters(source.document, cures_of_tags(source, faults.BAD_VALUE)))
-    ],
+    faults.UNKNOWN_TAG: [("tags in other letters", lambda source, _: filter(partial(in_other_letters, source), name_edits(source)))],
+    faults.UNBALANCED: [("tags in other letters", lambda source, _: filter(partial(in_other_letters, source), end_edits(source)))],
+    faults.BAD_VALUE: [("values in other letters", lambda source, fault: cures_of_tags(source, fault, in_other_letters))],
 }
 """Notations that `tml` does not read and that can be read in one way only. No single keystroke makes one of what was right."""
 
 GUESSES: dict[int, list[tuple[str, Edits]]] = {
-    faults.BAD_REFERENCE: [("unescaped &", lambda source: reference_edits(source.document))],
-    faults.UNKNOWN_TAG: [("names of tags", name_edits)],
-    faults.UNBALANCED: [("names of tags", end_edits)],
-    faults.REPEATED: [("repeated attributes", lambda source: cures_of_tags(source, faults.REPEATED))],
-    faults.MISSING: [("names of attributes, and identifiers", lambda source: cures_of_tags(source, faults.MISSING))],
-    faults.BAD_VALUE: [("values", lambda source: cures_of_tags(source, faults.BAD_VALUE))],
-    faults.CONFLICT: [("ends of links", lambda source: cures_of_tags(source, faults.CONFLICT))],
-    faults.BAD_DATE: [("dates", lambda source: cures_of_tags(source, faults.BAD_DATE))],
-    faults.DUPLICATE: [("identifiers", lambda source: cures_of_tags(source, faults.DUPLICATE))],
-    faults.UNKNOWN_REFERENCE: [("references", lambda source: cures_of_tags(source, faults.UNKNOWN_REFERENCE))],
+    faults.BAD_REFERENCE: [("unescaped &", lambda source, _: reference_edits(source.document))],
+    faults.UNKNOWN_TAG: [("names of tags", lambda source, _: name_edits(source))],
+    faults.UNBALANCED: [("names of tags", lambda source, _: end_edits(source))],
+    faults.REPEATED: [("repeated attributes", lambda source, fault: cures_of_tags(source, fault))],
+    faults.MISSING: [("names of attributes, and identifiers", lambda source, fault: cures_of_tags(source, fault))],
+    faults.BAD_VALUE: [("values", lambda source, fault: cures_of_tags(source, fault))],
+    faults.CONFLICT: [("ends of links", lambda source, fault: cures_of_tags(source, fault))],
+    faults.BAD_DATE: [("dates", lambda source, fault: cures_of_tags(source, fault))],
+    faults.DUPLICATE: [("identifiers", lambda source, fault: cures_of_tags(source, fault))],
+    faults.UNKNOWN_REFERENCE: [("references", lambda source, fault: cures_of_tags(source, fault))],
 }
 """What probably helps against a fault in all of a document, each with the words for it: made only with `--unsafe`."""
+
+OF_ONE_TAG = frozenset({faults.REPEATED, faults.MISSING, faults.BAD_VALUE, faults.CONFLICT, faults.BAD_DATE})
+"""The faults that only a change of their own tag cures."""
 
 ONE_KEYSTROKE = "one keystroke"
 """The words for a keystroke that explains a fault alone."""
@@ -160,11 +164,12 @@ def not_fixed(found: Found, problem: str) -> FixReport:
 def mended(program: Program, document: bytes, unsafe: bool = False, encoding: str | None = None) -> Fixed:
     """Fixes a document, one fault after another, as long as `tml` goes further each time, and then what it accepts as it is."""
     fixed = Fixed(document, document)
-    fault = first_fault(program, document)
+    fault, room = first_fault(program, document), MOST_SEARCHED
     for _ in range(ROUNDS):
         found = steps_of_warnings(program, fixed.after, unsafe)
+        room -= len(fixed.after)
         if fault is not None:
-            origin = cache(partial(found_origin, program, fixed.after, fault))
+            origin = cache(partial(found_origin, program, fixed.after, fault) if room > 0 else partial(Explained))
             found = chain(step_from(program, fixed.after, fault, encoding), steps(program, fixed.after, fault, origin, unsafe))
         step = next(found, None)
         if step is None:
@@ -211,7 +216,7 @@ def steps_by(
 ) -> Iterator[Step]:
     """The changes by the rows of a table for a fault that help against it. What is there too often is left."""
     for words, edits_of in table.get(fault.number, []):
-        edits = list(islice(edits_of(Source(document, units)), MOST_EDITS + 1))
+        edits = list(islice(edits_of(Source(document, units), fault), MOST_EDITS + 1))
         step = helping(program, document, fault, words, edits) if len(edits) <= MOST_EDITS else None
         if step is not None:
             yield step
@@ -223,13 +228,11 @@ def is_entity(document: bytes, edit: Edit) -> bool:
     return name != "" and not any(is_near(name, one) for one in ("lt", "gt", "amp", "quot", "apos"))
 
 
-def in_other_letters(document: bytes, edits: Iterable[Edit]) -> Iterator[Edit]:
-    """The edits that change the case of more than one letter, the sign between words, or what nobody sees, and nothing else."""
-    for edit in edits:
-        old, new = (text.decode("utf-8", "surrogateescape") for text in (document[edit.start : edit.end], edit.text))
-        differing = sum(one != other for one, other in zip(old, new, strict=False)) + abs(len(old) - len(new))
-        if plain(old) == plain(new) and (differing > 1 or not old.isascii()):
-            yield edit
+def in_other_letters(source: Source, edit: Edit) -> bool:
+    """Whether an edit changes the case of more than one letter, the sign between words, or what nobody sees, and nothing else."""
+    old, new = (text.decode("utf-8", "surrogateescape") for text in (source.document[edit.start : edit.end], edit.text))
+    differing = sum(one != other for one, other in zip(old, new, strict=False)) + abs(len(old) - len(new))
+    return (differing > 1 or not old.isascii()) and plain(old) == plain(new)
 
 
 def steps_of_warnings(program: Program, document: bytes, unsafe: bool) -> Iterator[Step]:
@@ -266,12 +269,19 @@ def moved(fault: Fault, edits: Iterable[Edit]) -> Fault:
     return Fault(fault.number, fault.name, fault.offset + shift)
 
 
-def cures_of_tags(source: Source, number: int) -> Iterator[Edit]:
-    """The edits for a fault of all tags, of each where there is one cure only."""
-    for tag in chain(*source.by_kind.values()):
-        found = Explanation()
-        OF_TAGS[number](source, tag, found)
-        yield from found.edits
+def cures_of_tags(source: Source, fault: Fault, fits: Callable[[Source, Edit], bool] = lambda *_: True) -> Iterator[Edit]:
+    """The edits of a kind for a fault of all tags, of each where there is one cure only; none if nothing else can cure the one at fault."""
+    own = unit_at(source.units, fault.offset) if fault.number in OF_ONE_TAG else None
+    if own is None or any(fits(source, edit) for edit in cures_of(source, fault, own)):
+        for tag in chain(*source.by_kind.values()):
+            yield from (edit for edit in cures_of(source, fault, tag) if fits(source, edit))
+
+
+def cures_of(source: Source, fault: Fault, tag: Unit) -> list[Edit]:
+    """The edits for such a fault of one tag."""
+    found = Explanation()
+    OF_TAGS[fault.number](source, tag, found)
+    return found.edits
 
 
 def first_fault(program: Program, document: bytes) -> Fault | None:

@@ -7,7 +7,6 @@ from dataclasses import dataclass
 from functools import cached_property
 
 from tml.places import Place
-from tml.statuses import MANY_BYTES
 from tml.tags.cutting import units_of_whole
 from tml.tags.source import Source, attribute_of
 from tml.tags.units import Unit, Units
@@ -80,7 +79,7 @@ class Wording:
         """The text of the event or time that an interval is, cut only where it is very long; it may be empty. It is found once."""
         if name not in self.texts:
             tag = self.tag_of(name)
-            self.texts[name] = "" if tag is None else self.inner_text(tag) or cut(html.unescape(self.value_of(tag)))
+            self.texts[name] = "" if tag is None else self.inner_texts[tag.start] or cut(html.unescape(self.value_of(tag)))
         return self.texts[name]
 
     def tag_of(self, name: str) -> Unit | None:
@@ -93,12 +92,6 @@ class Wording:
     def value_of(self, tag: Unit) -> str:
         """The beginning of the value of an empty time, which stands for its text."""
         return self.source.value(tag, "value")[:MOST_OF_VALUE] if tag.kind == "empty" else ""
-
-    def inner_text(self, tag: Unit) -> str:
-        """The text inside a tag. In a short document it is looked for alone, in a long one with all others."""
-        if len(self.document) > MANY_BYTES:
-            return self.inner_texts[tag.start]
-        return texts_of(self.units, self.document, {tag.start})[tag.start]
 
     @cached_property
     def inner_texts(self) -> dict[int, str]:

@@ -5,11 +5,9 @@ from __future__ import annotations
 import re
 from collections.abc import Iterator
 from functools import partial
-from itertools import chain
 
 from tml.explaining.references import whole_end
 from tml.explaining.wholeness import WITHOUT_BEGIN, first_conflict, name_of_bare, version_marks
-from tml.statuses import MANY_BYTES
 from tml.tags.edits import Edit, known
 from tml.tags.profile import CARRIED, ROOT, TABLE
 from tml.tags.similar import one_letter_apart
@@ -48,15 +46,11 @@ def unknown_attribute(source: Source) -> Iterator[Suspect]:
 
 def unknown_attributes(source: Source) -> Iterator[tuple[Unit, Attribute]]:
     """The attributes of tags of TimeML that are not known."""
-    is_short = len(source.document) <= MANY_BYTES
     for name, tags in source.by_name.items():
         known = KNOWN[name]
-        if is_short and known.issuperset(chain.from_iterable(map(source.values, tags))):
-            continue
         for tag in tags:
-            for attribute in tag.attributes:
-                if attribute.name not in known:
-                    yield tag, attribute
+            if not known.issuperset(source.values(tag)):
+                yield from ((tag, attribute) for attribute in tag.attributes if attribute.name not in known)
 
 
 def empty_tag(source: Source) -> Iterator[Suspect]:

@@ -9,6 +9,7 @@ from collections.abc import Callable, Iterator, Sequence
 from dataclasses import dataclass, field
 from functools import cached_property
 from itertools import product
+from typing import NamedTuple
 
 from tml.explaining.attributes import OTHER_RELATIONS, SAME_RELATIONS, UNCLEAR_RELATIONS
 from tml.explaining.faults import Fault
@@ -84,6 +85,16 @@ def outline(identifier: str) -> str:
     return re.sub(r"[^\W\d_]+", "a", shape(identifier))
 
 
+class Lesson(NamedTuple):
+    """How one tag is written: what is before, after and between its ends, and whether there is white space before its `>`."""
+
+    left: tuple[bool, bool] | None
+    right: tuple[bool, bool] | None
+    gaps: tuple[tuple[str, str, str], ...]
+    attributes: list[str]
+    is_spaced: bool
+
+
 @dataclass
 class Likeness:
     """How tags of one name and kind are written: how many there are, and what is before, after and between them."""
@@ -96,16 +107,15 @@ class Likeness:
     is_spaced: bool = False
     """Whether there is white space before the `>` of one."""
 
-    def learn(self, tag: Tag, text: str) -> None:
+    def learn(self, lesson: Lesson) -> None:
         """Takes in how one more tag is written; after many only its attributes."""
         self.count += 1
-        self.attributes.update(name for name, _ in tag.pairs)
-        if self.count > MANY:
-            return
-        self.lefts.add(kind_of(text[tag.start - 1 : tag.start]))
-        self.rights.add(kind_of(text[tag.end : tag.end + 1]))
-        self.gaps.update(gaps(tag, text))
-        self.is_spaced |= SPACED_END.search(text, tag.start, tag.end) is not None
+        self.attributes.update(lesson.attributes)
+        if self.count <= MANY:
+            self.lefts.add(lesson.left)
+            self.rights.add(lesson.right)
+            self.gaps.update(lesson.gaps)
+            self.is_spaced |= lesson.is_spaced
 
 
 @dataclass
@@ -211,24 +221,45 @@ class Choice:
         style, last, before = Style(), 0, ""
         for number, tag in enumerate(self.draft.tags):
             path = (self.draft.before if tag.start <= self.low else self.draft.needed)[number]
-            calm = [self.is_calm(last, tag.start), self.is_calm(tag.start, tag.end)]
-            text = NOT_TEXT.sub("", self.draft.text[last : tag.start]) if path > 0 and all(calm) else ""
-            place = place_of(self.draft.above[path][1], before, tag.name) if path > 0 else ""
-            style.with_text.update({place} if text.strip() else ())
-            style.blank += calm[0] and place in BARE and not text.strip()
-            style.has_slash |= text.endswith("/")
-            style.has_sign |= SIGN.search(text) is not None
-            if calm[1]:
-                style.by_name[tag.name][tag.kind].learn(tag, self.draft.text)
-                style.by_kind[tag.kind, purpose(tag.name)].learn(tag, self.draft.text)
-                style.identifiers[tag.name].extend(filter(None, [tag.identifier()]))
-                style.nested.update({tag.name} if tag.kind == "start" and tag.name in self.draft.names(path) else ())
+            is_calm, is_tag_calm = self.is_calm(last, tag.start), self.is_calm(tag.start, tag.end)
+            if is_calm:
+                text = NOT_TEXT.sub("", self.draft.text[last : tag.start]) if path > 0 and is_tag_calm and last < tag.start else ""
+                self.learn_text(style, text, place_of(self.draft.above[path][1], before, tag.name) if path > 0 else "")
+            if is_tag_calm:
+                self.learn_tag(style, tag, path)
             last, before = tag.end, tag.name
         return style
 
+    def learn_text(self, style: Style, text: str, place: str) -> None:
+        """Takes in a text before a tag, and where it is."""
+        if not text.strip():
+            style.blank += place in BARE
+            return
+        style.with_text.add(place)
+        style.has_slash |= text.endswith("/")
+        style.has_sign |= SIGN.search(text) is not None
+
+    def learn_tag(self, style: Style, tag: Tag, path: int) -> None:
+        """Takes in how a tag is written, and after which path it is."""
+        text, alike = self.draft.text, style.by_name[tag.name][tag.kind]
+        of_kind, attributes = style.by_kind[tag.kind, purpose(tag.name)], [name for name, _ in tag.pairs]
+        if alike.count < MANY:
+            sides = kind_of(text[tag.start - 1 : tag.start]), kind_of(text[tag.end : tag.end + 1])
+            is_spaced = SPACED_END.search(text, max(tag.start, tag.end - MOST_SPACES), tag.end) is not None
+            lesson = Lesson(*sides, tuple(gaps(tag, text)), attributes, is_spaced)
+        else:
+            lesson = Lesson(None, None, (), attributes, False)
+        alike.learn(lesson)
+        of_kind.learn(lesson)
+        if identifier := tag.identifier():
+            style.identifiers[tag.name].append(identifier)
+        if tag.kind == "start" and tag.name not in style.nested and tag.name in self.draft.names(path):
+            style.nested.add(tag.name)
+
     def is_calm(self, first: int, last: int) -> bool:
         """Whether no origin touches any place from the first to the last one."""
-        return bisect_left(self.touched, first) == bisect_right(self.touched, last)
+        is_apart = last < self.touched[0] or first > self.touched[-1]
+        return is_apart or bisect_left(self.touched, first) == bisect_right(self.touched, last)
 
     def result(self) -> Restored | Question:
         """The origin that is left, or those of each meaning; none if they are too far apart for a comparison."""

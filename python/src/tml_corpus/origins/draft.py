@@ -35,7 +35,7 @@ class Tag(NamedTuple):
 
     def identifier(self) -> str:
         """Its identifier; nothing if it has none."""
-        return dict(self.pairs).get(IDENTIFIERS.get(self.name, ""), "")
+        return dict(self.pairs).get(IDENTIFIERS.get(self.name, ""), "") if self.pairs else ""
 
     def references(self) -> Iterator[tuple[str, str]]:
         """The tags that it refers to, by their names and identifiers."""

@@ -189,7 +189,8 @@ class Search:
         return []
 
     def well_formed(self, may_nest: bool, kept: list[tuple[Origin, list[Tag]]]) -> Iterator[tuple[Origin, list[Tag]]]:
-        """The stretches that are units, each with its tags: those with which the document may nest, or the others. They are kept too."""
+        """The stretches that are units and may be of the document, each with its tags: those with which the document may nest, or the
+        others. They are kept too."""
         for origin in self.whole(may_nest):
             if origin[1:] in self.seen:
                 continue
@@ -198,8 +199,9 @@ class Search:
             tags = tags_of_units(origin.stretch)
             if tags is not None:
                 self.left -= EACH_READ * sum(tag.end - tag.start for tag in tags)
-                kept.append((origin, tags))
-                yield kept[-1]
+                if self.may_be(origin, tags):
+                    kept.append((origin, tags))
+                    yield kept[-1]
 
     def whole(self, may_nest: bool) -> Iterator[Origin]:
         """The stretches that are units as far as the automaton can tell."""
@@ -268,18 +270,20 @@ class Search:
         before, needed = draft.before[first], draft.needed[last]
         if draft.after(before, tags) != needed or not draft.refers_well(first, last, tags):
             return False
-        if not draft.are_single(first, last, tags, draft.repeated) or not self.may_be(origin, tags):
-            return False
-        return not self.has_stray_text(origin, tags, before) and self.are_good(origin, tags) and self.first_fault(origin) is None
+        return (
+            draft.are_single(first, last, tags, draft.repeated)
+            and not self.has_stray_text(origin, tags, before)
+            and self.are_good(origin, tags)
+            and self.first_fault(origin) is None
+        )
 
     def may_be(self, origin: Origin, tags: list[Tag]) -> bool:
         """Whether each tag of a stretch may be one of the document, and each reference is one to a character."""
-        if BAD_REFERENCE.search(NOT_TEXT.sub("", origin.stretch)) or (
-            self.fault.number == faults.BAD_DATE and not all(map(has_a_time, tags))
-        ):
+        key, stretch = origin.keystroke, (origin.start, origin.end)
+        if not all(self.draft.is_known(tag, stretch, (key.start, key.end)) for tag in tags):
             return False
-        key = origin.keystroke
-        return all(self.draft.is_known(tag, (origin.start, origin.end), (key.start, key.end)) for tag in tags)
+        has_times = self.fault.number != faults.BAD_DATE or all(map(has_a_time, tags))
+        return has_times and not BAD_REFERENCE.search(NOT_TEXT.sub("", origin.stretch))
 
     def has_stray_text(self, origin: Origin, tags: list[Tag], path: int) -> bool:
         """Whether there is text outside of the root or within a tag that holds none."""
@@ -304,8 +308,6 @@ class Search:
             self.left -= EACH_READ * (until - last)
             if BROKEN in (draft.before[first], draft.after(draft.before[first], [*tags, *draft.tags[last:until]])):
                 return False
-        if not self.may_be(origin, tags):
-            return False
         if fault.number == faults.UNKNOWN_REFERENCE and not self.is_found(origin, tags):
             return False
         if fault.number == faults.DUPLICATE and not draft.are_single(first, last, tags, self.own()):
