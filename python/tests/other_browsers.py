@@ -77,16 +77,6 @@ look();
 """
 """In Firefox, the roles and names that it gives to screen readers."""
 
-DROPPED = """
-for (const path of arguments[0]) {
-  const [given, file] = [new window.DataTransfer(), Cc["@mozilla.org/file/local;1"].createInstance(Ci.nsIFile)];
-  file.initWithPath(path);
-  given.mozSetDataAt("application/x-moz-file", file, 0);
-  window.dispatchEvent(new window.DragEvent("drop", { dataTransfer: given, bubbles: true }));
-}
-"""
-"""In Firefox, a drop of each of some paths."""
-
 ROLES = {"pushbutton": "button", "entry": "textbox", "graphic": "image", "statusbar": "status"}
 """The roles of Firefox that Chromium calls otherwise."""
 
@@ -340,12 +330,6 @@ class Page:
         saved.unlink(missing_ok=True)
         saved.symlink_to(downloadPath)
 
-    def _dispatchDragEvent(self, type: str, data: Json, **_words: object) -> None:
-        if not isinstance(self.driver, Marionette):
-            self._other()
-        if type == "drop":
-            self.script(DROPPED, data["files"], sandbox="system")
-
     def _getDocument(self) -> Json:
         return {"root": {"nodeId": 0}}
 
@@ -381,9 +365,11 @@ def main() -> None:
         if hasattr(module, name.split(".")[0])
     ]
     suites = suites or list(map(unittest.defaultTestLoader.loadTestsFromModule, (test_web_page, test_web_pane)))
+    paste = test_web_page.Given.test_a_paste
     if given.browser == "firefox":
-        test_web_page.Given.test_a_paste.__dict__.update(__unittest_skip__=True, __unittest_skip_why__="scripts cannot paste in Firefox")
-    with mock.patch.object(test_web_page, "opened", lambda: Page(running(given.browser))):
+        paste = unittest.skip("scripts cannot paste in Firefox")(paste)
+    opened = mock.patch.object(test_web_page, "opened", lambda: Page(running(given.browser)))
+    with opened, mock.patch.object(test_web_page.Given, "test_a_paste", paste):
         done = unittest.TextTestRunner(verbosity=2).run(unittest.TestSuite(suites))
     sys.exit(not done.wasSuccessful())
 
