@@ -1,9 +1,9 @@
-// The picture of a timeline, in parts of SVG: a row for each bar, upright lines for the places of the axis, and lines between bars for
+// The picture of a timeline, in parts of SVG: bars in lanes, upright lines for the places of the axis, and lines between bars for
 // the orders that they do not say. A part has a name, attributes, and inner parts or texts. Lengths are in units of two pixels.
 import { apart, shown } from "./elements.mjs";
 
 const [EDGE, TOP, BAR, LABEL, PITCH, FOOT] = [3, 4, 8, 6.5, 20, 4];
-/** What is free at the edges and above; how high bars and letters are; how far apart rows are; and what is free below. */
+/** What is free at the edges and above; how high bars and letters are; how far apart lanes are; and what is free below. */
 
 const SHORT = 1.5; // how far a bar stops short of a strict bound, at most
 const MARK = 3.5; // how long the mark is of what has begun or has not ended
@@ -57,11 +57,14 @@ export function extentOf(bar, positions) {
 /** The picture of a model, at least so broad, with the fillings of the kinds of bars. */
 export function pictureOf(model, width, fillings) {
   const positions = positionsOf(model, width);
-  const [broad, high] = [positions.right + EDGE, TOP + PITCH * model.rows.length + FOOT];
-  const drawn = model.rows.map((row, index) => {
+  const broad = positions.right + EDGE;
+  const laid = model.rows.map((row) => {
     const extent = extentOf(row.bar, positions);
-    return { row, extent, top: TOP + PITCH * index + LABEL + 2 };
+    return { row, extent, label: labelOf(row, extent, broad) };
   });
+  const lanes = lanesOf(laid, joinedAbove(model));
+  const high = TOP + PITCH * (Math.max(...lanes) + 1) + FOOT;
+  const drawn = laid.map((one, index) => ({ ...one, top: TOP + PITCH * lanes[index] + LABEL + 2 }));
   const bars = new Map(drawn.map((one) => [one.row.interval, one]));
   const nameOf = (point) => `${model.names[point >> 1]}${point % 2 ? "+" : "-"}`;
   return piece(
@@ -70,7 +73,7 @@ export function pictureOf(model, width, fillings) {
     ...positions.places.map((x, place) => placeLine(x, high, model.axis[place].map(nameOf))),
     ...drawn.flatMap(({ row, extent, top }) => barParts(row, extent, top, fillings)),
     ...model.lines.map((order, number) => orderLine(order, number, bars)),
-    ...drawn.map(({ row, extent, top }) => label(row, extent, top, broad)),
+    ...drawn.map(({ label: { text, ...look }, top }) => piece("text", { ...look, y: two(top - 1.8), ...RIM }, text)),
   );
 }
 
@@ -138,15 +141,40 @@ function anchors(one, other, number) {
   return one[1] < other[0] ? [one[1], other[0]] : [one[0], other[1]];
 }
 
+/** Of each row those before it to which a line leads from it. */
+function joinedAbove({ rows, lines }) {
+  const places = new Map(rows.map(({ interval }, place) => [interval, place]));
+  const above = rows.map(() => []);
+  for (const { first, second } of lines) {
+    const [one, other] = [places.get(first >> 1), places.get(second >> 1)];
+    if (one !== other) above[Math.max(one, other)].push(Math.min(one, other));
+  }
+  return above;
+}
+
+/** The lane of each bar: no two bars or labels meet in a lane, and a bar is below those before it to which a line leads. */
+function lanesOf(laid, above) {
+  const [taken, lanes] = [[], []];
+  laid.forEach(({ extent: { outer }, label }, place) => {
+    const begin = label["text-anchor"] === "end" ? label.x - measured(label.text) : label.x;
+    const [left, right] = [Math.min(outer[0], begin) - 1, Math.max(outer[1], begin + measured(label.text)) + 1];
+    let lane = above[place].reduce((least, other) => Math.max(least, lanes[other] + 1), 0);
+    while (taken[lane]?.some(([from, to]) => left < to && from < right)) lane++;
+    (taken[lane] ??= []).push([left, right]);
+    lanes.push(lane);
+  });
+  return lanes;
+}
+
 /** The label of a bar above it, from where it begins, or up to where it ends if that leaves more room. Texts are cut before names are. */
-function label({ text, name, kind }, { outer }, top, broad) {
+function labelOf({ text, name, kind }, { outer }, broad) {
   const isLate = outer[0] + outer[1] > broad;
   const [x, room] = isLate ? [outer[1], outer[1] - EDGE] : [outer[0], broad - EDGE - outer[0]];
-  const look = { x: two(x), y: two(top - 1.8), "font-size": LABEL, "text-anchor": isLate ? "end" : "start", fill: BLACK };
+  const look = { x: Number(two(x)), "font-size": LABEL, "text-anchor": isLate ? "end" : "start", fill: BLACK };
   const called = apart(fitted(shown(name), (text ? 0.5 : 0.9) * room));
   const tail = (text ? ` (${called})` : called) + KINDS[kind];
   const head = text ? apart(fitted(shown(text), room - measured(tail))) : "";
-  return piece("text", { ...look, ...RIM }, head + tail);
+  return { ...look, text: head + tail };
 }
 
 /** About as much room as a label takes, if not less. */

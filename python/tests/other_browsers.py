@@ -1,9 +1,10 @@
-"""The tests of the page tml.html in Firefox or in WebKit, which somebody runs by hand: they test what headless Chromium passes in the gate.
+"""Runs the tests of the page tml.html in Firefox or in WebKit, by hand. In the gate, headless Chromium runs them.
 
     other_browsers.py firefox [NAME ...]     needs firefox-esr
     other_browsers.py webkit [NAME ...]      needs webkit2gtk-driver and xvfb
 
-A name is one of a test, such as Drawn or Said.test_queries. A test is skipped if it needs what only Chromium can do.
+A name is the name of a test, such as Drawn or Said.test_queries. A test is skipped if it needs what only Chromium can do. Pages come from
+TML_WEB, or from crates/tml_c/out/web.
 """
 
 from __future__ import annotations
@@ -24,7 +25,7 @@ import tempfile
 import time
 import unittest
 from pathlib import Path
-from typing import Any, Protocol
+from typing import Any
 from unittest import mock
 
 import browser
@@ -76,32 +77,12 @@ look();
 """
 """In Firefox, the roles and names that it gives to screen readers."""
 
-DROPPED = """
-for (const path of arguments[0]) {
-  const [given, file] = [new window.DataTransfer(), Cc["@mozilla.org/file/local;1"].createInstance(Ci.nsIFile)];
-  file.initWithPath(path);
-  given.mozSetDataAt("application/x-moz-file", file, 0);
-  window.dispatchEvent(new window.DragEvent("drop", { dataTransfer: given, bubbles: true }));
-}
-"""
-"""In Firefox, a drop of each of some paths."""
-
 ROLES = {"pushbutton": "button", "entry": "textbox", "graphic": "image", "statusbar": "status"}
 """The roles of Firefox that Chromium calls otherwise."""
 
 
 class Failed(Exception):
     """A driver has answered an error."""
-
-
-class Driver(Protocol):
-    """What tells a browser what to do, by the commands of WebDriver."""
-
-    def send(self, method: str, path: str, **words: object) -> Any:
-        """The answer to a command."""
-
-    def end(self) -> None:
-        """Ends the browser."""
 
 
 def free_port() -> int:
@@ -311,6 +292,8 @@ class Page:
                 raise unittest.SkipTest("the window of WebKit cannot be so narrow")
             self.until(f"innerWidth === {width}")
 
+    # The tests send commands of Chromium. The methods below have the names and arguments of these commands.
+
     def ask(self, method: str, **words: Any) -> Json:
         """What Chromium answers to a command, as far as the tests need it."""
         return getattr(self, f"_{method.split('.')[1]}", self._other)(**words) or {}
@@ -347,12 +330,6 @@ class Page:
         saved.unlink(missing_ok=True)
         saved.symlink_to(downloadPath)
 
-    def _dispatchDragEvent(self, type: str, data: Json, **_words: object) -> None:
-        if not isinstance(self.driver, Marionette):
-            self._other()
-        if type == "drop":
-            self.script(DROPPED, data["files"], sandbox="system")
-
     def _getDocument(self) -> Json:
         return {"root": {"nodeId": 0}}
 
@@ -367,7 +344,7 @@ class Page:
 
     def _getFullAXTree(self) -> Json:
         if not isinstance(self.driver, Marionette):
-            self._other()
+            return self._other()
         found = self.driver.command("WebDriver:ExecuteAsyncScript", {"script": ACCESSIBLE, "args": [], "sandbox": "system"})
         return {"nodes": [{"role": {"value": ROLES.get(role, role)}, "name": {"value": name}} for role, name in found]}
 
@@ -381,10 +358,18 @@ def main() -> None:
     with mock.patch.object(browser, "needs_browser", lambda one: one):
         import test_web_page
         import test_web_pane
-    suites = [unittest.defaultTestLoader.loadTestsFromName(name, module) for name in given.names
-              for module in (test_web_page, test_web_pane) if hasattr(module, name.split(".")[0])]
+    suites = [
+        unittest.defaultTestLoader.loadTestsFromName(name, module)
+        for name in given.names
+        for module in (test_web_page, test_web_pane)
+        if hasattr(module, name.split(".")[0])
+    ]
     suites = suites or list(map(unittest.defaultTestLoader.loadTestsFromModule, (test_web_page, test_web_pane)))
-    with mock.patch.object(test_web_page, "opened", lambda: Page(running(given.browser))):
+    paste = test_web_page.Given.test_a_paste
+    if given.browser == "firefox":
+        paste = unittest.skip("scripts cannot paste in Firefox")(paste)
+    opened = mock.patch.object(test_web_page, "opened", lambda: Page(running(given.browser)))
+    with opened, mock.patch.object(test_web_page.Given, "test_a_paste", paste):
         done = unittest.TextTestRunner(verbosity=2).run(unittest.TestSuite(suites))
     sys.exit(not done.wasSuccessful())
 

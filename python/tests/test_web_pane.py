@@ -239,10 +239,12 @@ class Seen(PaneTest):
     def test_a_picture_is_reached_and_scrolled(self) -> None:
         events = "".join(
             f'<EVENT eid="e{number}" class="STATE">w{number}</EVENT><MAKEINSTANCE eiid="i{number}" eventID="e{number}"/>'
-            for number in range(60)
+            for number in range(80)
         )
+        related = [(number, "BEFORE", number + 1) for number in range(59)]
+        related += [(number, "INCLUDES", other) for number in range(60, 80) for other in (0, 59)]
         links = "".join(
-            f'<TLINK eventInstanceID="i{number}" relatedToEventInstance="i{number + 1}" relType="BEFORE"/>' for number in range(59)
+            f'<TLINK eventInstanceID="i{one}" relatedToEventInstance="i{other}" relType="{relation}"/>' for one, relation, other in related
         )
         resized(self.browser, 400)
         self.choose(self.write("long.xml", f"<TimeML>{events}{links}</TimeML>"))

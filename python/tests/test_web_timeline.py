@@ -9,6 +9,7 @@ import subprocess
 import unittest
 from collections import Counter
 from dataclasses import replace
+from itertools import pairwise
 from pathlib import Path
 from random import Random
 from typing import Any
@@ -110,6 +111,13 @@ def extent_of(known: Known, number: int) -> dict[str, Any]:
     }
 
 
+def stretch_of(text: tuple[float, float, str, float, str]) -> tuple[float, float]:
+    """From where to where a label reaches at least."""
+    x, _, anchor, size, words = text
+    broad = 0.6 * size * len(re.sub("[\u2068\u2069]", "", words))
+    return (x - broad, x) if anchor == "end" else (x, x + broad)
+
+
 @needs_node
 class Models(unittest.TestCase):
     """The model and the picture of documents that some timeline fits."""
@@ -148,11 +156,20 @@ class Models(unittest.TestCase):
         self.assertEqual([kind for kind in KINDS if not counts[kind]], [])
 
     def test_each_bar_has_a_label_and_no_two_meet(self) -> None:
+        saved = 0
         for found in self.found:
-            picture = Picture.read(found["svg"])
-            tops = [bar.top for bar in picture.whole_bars()]
-            self.assertEqual(len(set(tops)), len(tops))
-            self.assertEqual(len(tops), len(found["order"]) - len(found["listed"]))
+            picture, count = Picture.read(found["svg"]), len(found["order"]) - len(found["listed"])
+            bars = picture.whole_bars()
+            labels = [text for text in picture.texts if text[3] > 1]
+            self.assertEqual((len(bars), len(labels)), (count, count))
+            self.assertEqual(sorted(round(bar.top - 1.8, 2) for bar in bars), sorted(y for _, y, *_ in labels))
+            for lane in {bar.top for bar in bars}:
+                stretches = sorted((bar.left, bar.right) for bar in bars if bar.top == lane)
+                stretches_of_labels = sorted(map(stretch_of, [text for text in labels if text[1] == round(lane - 1.8, 2)]))
+                for (_, right), (left, _) in [*pairwise(stretches), *pairwise(stretches_of_labels)]:
+                    self.assertLess(right, left, found["svg"])
+            saved += count - len({bar.top for bar in bars})
+        self.assertGreater(saved, NETS)
 
 
 if __name__ == "__main__":
