@@ -22,7 +22,7 @@ from typing import Any
 
 import tml
 from corpus import COMPANION, TML, TOOLS
-from costly import SHAPES
+from costly import BROKEN, SHAPES, SHORT
 from forked import become, import_ahead
 
 SECONDS, MEBIBYTES, GROWTH = 5.0, 300, 2.5
@@ -242,10 +242,10 @@ def cost(command: str, content: bytes) -> Cost:
 def breach(command: str, shape: str, share: float) -> str | None:
     """What a command takes too much of for a document of a share of the limits; None if it takes no more than it may.
 
-    Growth is that from a quarter of the size.
+    Growth is that from a quarter of the size. Faults are searched for, and mended, up to a number that is the same for all documents.
     """
     make = SHAPES[shape]
-    room = SECONDS * share + BEGINNING
+    room = SECONDS / 2 if shape in BROKEN | SHORT else SECONDS * share + BEGINNING
     for _ in range(TRIES):
         found = cost(command, make(share))
         if found.mebibytes > MEBIBYTES:

@@ -18,6 +18,8 @@ ONE_NET, ONE_TEXT = "a ring of instances, and references in their one EVENT", "a
 class Costs(unittest.TestCase):
     """No command takes more than its share, nor grows faster than its document. Only a machine that is busy for long would fail this."""
 
+    maxDiff = None
+
     def keep_within(self, commands: Iterable[str], shapes: Iterable[str]) -> None:
         """Each command over each shape."""
         found = [breach(command, shape, SHARE) for shape in shapes for command in commands]
@@ -28,13 +30,13 @@ class Costs(unittest.TestCase):
         self.keep_within(["check --lint", "check --clashes --more 20", "report", "serve", "tml.read", "tml-edit"], [ONE_TEXT])
 
     def test_nets(self) -> None:
-        self.keep_within(["check --clashes --more 20", "report", "open --pairs 20", "tml.clashes"], NETS)
+        self.keep_within(["check --clashes --more 20", "report", "tml.clashes"], NETS)
 
     def test_texts(self) -> None:
-        self.keep_within(["check --lint", "as a dictionary"], TEXTS)
+        self.keep_within(["check --lint", "tml.read"], TEXTS)
 
     def test_faults(self) -> None:
-        self.keep_within(["check --more 20, GitHub", "serve"], BROKEN)
+        self.keep_within(["serve"], BROKEN)
 
     def test_fixes(self) -> None:
         self.keep_within(["fix"], SHORT)

@@ -44,19 +44,26 @@ def near(name: str, choices: Iterable[str]) -> list[str]:
 
 
 @lru_cache(MOST_REMEMBERED)
+def plain_names(choices: tuple[str, ...]) -> list[str]:
+    """Some names as they are compared."""
+    return list(map(plain, choices))
+
+
+@lru_cache(MOST_REMEMBERED)
 def near_of(name: str, choices: tuple[str, ...]) -> list[str]:
     """The same, which is remembered: a document may have the same slip very often."""
-    same = same_but_for_case(name, choices)
-    if same is not None:
-        return [same]
-    looks = [choice for choice in choices if choice.translate(LOOKALIKES) == name.translate(LOOKALIKES)]
+    wanted, names = plain(name), plain_names(choices)
+    same = [choice for choice, other in zip(choices, names, strict=True) if other == wanted]
+    if len(same) == 1:
+        return same
+    looking = name.translate(LOOKALIKES)
+    looks = [choice for choice in choices if choice.translate(LOOKALIKES) == looking]
     if len(looks) == 1:
         return looks
-    wanted = plain(name)
     most = 0 if len(wanted) < SHORT else 1 if len(wanted) < LONG else 2
     found: dict[int, list[str]] = {}
-    for choice in islice(choices, MOST_CHOICES):
-        count = slips(wanted, plain(choice), most)
+    for choice, other in islice(zip(choices, names, strict=True), MOST_CHOICES):
+        count = slips(wanted, other, most)
         if count <= most:
             found.setdefault(count, []).append(choice)
     return found[min(found)] if found else []
@@ -64,7 +71,8 @@ def near_of(name: str, choices: tuple[str, ...]) -> list[str]:
 
 def slips(one: str, other: str, most: int) -> int:
     """How many letters are another one, too many, missing, or exchanged with the next one; a greater number than `most` where more are."""
-    if abs(len(one) - len(other)) > most:
+    # Each letter that only one of them has is a slip.
+    if abs(len(one) - len(other)) > most or len({*one}.difference(other)) > most or len({*other}.difference(one)) > most:
         return most + 1
     before, row = list[int](), list(range(len(other) + 1))
     for place, letter in enumerate(one, 1):

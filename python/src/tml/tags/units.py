@@ -176,9 +176,13 @@ class Units(Sequence[Unit]):
                 break
             yield Attribute(self.words[self.names[one]], self.starts[one], self.ends[one])
 
+    def numbers_of(self, names: frozenset[str]) -> set[int]:
+        """The numbers of some names, of which there may be very many."""
+        return {number for number, word in enumerate(self.words) if word in names}
+
     def opening(self, *names: str) -> list[Unit]:
         """The start and empty tags of these names."""
-        wanted = {number for number, word in enumerate(self.words) if word in names}
+        wanted = self.numbers_of(frozenset(names))
         starts, ends, kinds, words = self.starts, self.ends, self.kinds, self.words
         return [
             Unit(starts[row], ends[row], KINDS[kinds[row]], words[name], self, row)
@@ -188,7 +192,7 @@ class Units(Sequence[Unit]):
 
     def named(self, *names: str) -> Iterator[Unit]:
         """The tags of these names one by one, end tags included."""
-        wanted = {number for number, word in enumerate(self.words) if word in names}
+        wanted = self.numbers_of(frozenset(names))
         return (self.unit(row) for row, name in enumerate(self.names) if name in wanted and self.kinds[row] <= END)
 
     def counts(self) -> dict[str, tuple[int, int]]:
