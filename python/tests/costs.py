@@ -245,7 +245,7 @@ def breach(command: str, shape: str, share: float) -> str | None:
     Growth is that from a quarter of the size. Faults are searched for, and mended, up to a number that is the same for all documents.
     """
     make = SHAPES[shape]
-    room = SECONDS / 2 if shape in BROKEN | SHORT else SECONDS * share + BEGINNING
+    room = SECONDS if shape in BROKEN | SHORT else SECONDS * share + BEGINNING
     for _ in range(TRIES):
         found = cost(command, make(share))
         if found.mebibytes > MEBIBYTES:
