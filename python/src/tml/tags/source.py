@@ -18,7 +18,6 @@ Made = TypeVar("Made")
 
 LONGEST, LONGEST_WORDS = 80, 400
 TEXT_AND_END = bytes((TEXT, END))
-SINGLE, DOUBLE = "'", '"'
 VALUE = re.compile(r"""([^ \t\r\n=]++)[ \t\r\n]*+=[ \t\r\n]*+(?:"([^"]*+)"|'([^']*+)')""")
 """An attribute of a tag: its name, and its value between quotes of either kind."""
 
@@ -81,36 +80,14 @@ class Explanation:
         return (way for find in self.offered for way in find())
 
 
-class Names(dict[tuple[str, ...], tuple[str, ...] | None]):
-    """The names of the attributes of a tag, by what stands between the values where all have double quotes; None where one stands twice."""
-
-    def __missing__(self, between: tuple[str, ...]) -> tuple[str, ...] | None:
-        names = tuple(name for name, _, _ in VALUE.findall((DOUBLE + DOUBLE).join(between)))
-        found = names if len(set(names)) == len(names) == len(between) - 1 else None
-        if len(self) < MOST_REMEMBERED and sum(map(len, between)) <= LONGEST_REMEMBERED:
-            self[between] = found
-        return found
-
-
 class ValuesAsWritten(dict[bytes, dict[str, str]]):
     """The values of the attributes of tags as they are written; of several attributes with one name the first one counts."""
 
-    def __init__(self) -> None:
-        super().__init__()
-        self.names = Names()
-
     def __missing__(self, tag: bytes) -> dict[str, str]:
-        written = tag.decode("utf-8", "surrogateescape")
-        parts = written.split(DOUBLE, LONGEST_REMEMBERED)
-        is_short = len(tag) <= LONGEST_REMEMBERED
-        names = self.names[tuple(parts[::2])] if is_short and SINGLE not in written else None
-        if names is None:
-            values = dict[str, str]()
-            for found in VALUE.finditer(written):
-                values.setdefault(found[1], found[2] or found[3] or "")
-        else:
-            values = dict(zip(names, parts[1::2], strict=True))
-        if len(self) < MOST_REMEMBERED and is_short:
+        values = dict[str, str]()
+        for found in VALUE.finditer(tag.decode("utf-8", "surrogateescape")):
+            values.setdefault(found[1], found[2] or found[3] or "")
+        if len(self) < MOST_REMEMBERED and len(tag) <= LONGEST_REMEMBERED:
             self[tag] = values
         return values
 
