@@ -34,6 +34,9 @@ BEGINNING = 0.3
 TRIES = 3
 """How often a process is measured that seems to take too long: on a busy machine one may take more than it needs."""
 
+SLOWEST = 4
+"""How many times slower a machine may be than the one of these figures. What grows too fast is seen on any machine."""
+
 SHOWN_SECONDS = 1.0
 PATIENCE = 150
 """After how many seconds of processor time a process is ended."""
@@ -245,7 +248,7 @@ def breach(command: str, shape: str, share: float) -> str | None:
     Growth is that from a quarter of the size. Faults are searched for, and mended, up to a number that is the same for all documents.
     """
     make = SHAPES[shape]
-    room = SECONDS if shape in BROKEN | SHORT else SECONDS * share + BEGINNING
+    room = SLOWEST * (SECONDS if shape in BROKEN | SHORT else SECONDS * share + BEGINNING)
     for _ in range(TRIES):
         found = cost(command, make(share))
         if found.mebibytes > MEBIBYTES:
