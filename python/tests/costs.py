@@ -245,7 +245,8 @@ def cost(command: str, content: bytes) -> Cost:
 def breach(command: str, shape: str, share: float) -> str | None:
     """What a command takes too much of for a document of a share of the limits; None if it takes no more than it may.
 
-    Growth is that from a quarter of the size. Faults are searched for, and mended, up to a number that is the same for all documents.
+    Growth is that from a quarter of the size, and is looked at only if the command takes more than half of its time: short times say
+    little. Faults are searched for, and mended, up to a number that is the same for all documents.
     """
     make = SHAPES[shape]
     room = SLOWEST * (SECONDS if shape in BROKEN | SHORT else SECONDS * share + BEGINNING)
@@ -253,7 +254,7 @@ def breach(command: str, shape: str, share: float) -> str | None:
         found = cost(command, make(share))
         if found.mebibytes > MEBIBYTES:
             return f"{command} of {shape}: {found.mebibytes:.0f} MiB"
-        growth = found.seconds / cost(command, make(share / 4)).seconds if found.seconds > BEGINNING else 0.0
+        growth = found.seconds / cost(command, make(share / 4)).seconds if found.seconds > room / 2 else 0.0
         if found.seconds <= room and growth <= GROWTH**2:
             return None
     return f"{command} of {shape}: {found.seconds:.2f} seconds, {growth:.1f} times those of a quarter"

@@ -33,7 +33,7 @@ class Costs(unittest.TestCase):
         self.keep_within(["check --lint", "check --clashes --more 20", "report", "serve", "tml.read", "tml-edit"], [ONE_TEXT])
 
     def test_nets(self) -> None:
-        self.keep_within(["check --clashes --more 20", "report", "tml.clashes"], NETS)
+        self.keep_within(["check --clashes --more 20", "report"], NETS)
 
     def test_texts(self) -> None:
         self.keep_within(["check --lint", "tml.read"], TEXTS)
